@@ -53,8 +53,8 @@ NAME = re.compile(r"[A-Za-z_][\w′'-]*")
 SOURCES = (".ci", "bin", "crates", "examples", "python", "rust", "samples", "tests", "tools", "validation")
 # folders in which rt and cargo leave what they build
 BUILT = ("out", "target")
-# docs/CHANGES.md and docs/PORT.md tell what was, with names that have gone since
-OF_THE_PAST = {"CHANGES.md", "PORT.md"}
+# these tell what was, with names that have gone since
+OF_THE_PAST = {"CHANGES.md", "PORT.md", "DESIGN-PASS.md"}
 # names of the kit, which stand in no source of this project
 OF_THE_KIT = {"rattle-kit-13f", "version"}
 

@@ -1,8 +1,10 @@
 """The helpers of the proof loop on texts made for them: tools/dev.py leaves out what is proved and keeps skeletons whole, tools/places.py
-finds the way to what is known and fills holes, tools/unused.py finds idle imports and lone names, and nothing else."""
+finds the way to what is known and fills holes, tools/unused.py finds idle imports and lone names, tools/forms.py the older forms of code, and
+nothing else."""
 from pathlib import PurePosixPath
 
 import dev
+import forms
 import places
 import unused
 from meadow.counted import Checks
@@ -83,6 +85,62 @@ SOURCES = {
     "crates/low/specs/Water.antt": "use Lists.{take, drop as skip, ◌++◌}\n-- skip\npub deep : ℕ\ndeep = take 1\npub wide : ℕ\nwide = deep\n",
     "crates/low/src/lib.rt": "use low::first;\nuse low::second;\nfn third() { first(); }\n",
 }
+OLD_FORMS = """#[derive(Clone, Copy)]
+pub enum Found {
+    Is(u32),
+    Not,
+}
+
+pub enum Part {
+    Note,
+}
+
+pub struct Line {
+    pub found: bool,
+    pub values: [u32; 8],
+}
+
+// The number of the first refusal, 0 for none.
+fn judged(depths: &[u32], rain: &[u32], inflow: &[u32]) -> u32
+    ensures { result ≡ 0 }
+{
+    let number = early(depths);
+    if number != 0 {
+        return number;
+    }
+    0
+}
+
+fn copied(
+    first: bool,
+    to: &mut [u32],
+    from: &[u32],
+) {
+    let mut i = 0;
+    while i < to.len() {
+        to[i] = from[i];
+        i += 1;
+    }
+    while to.len() > 5 {
+        stop(to);
+    }
+    for j in 0..3 {
+        stop(to);
+    }
+    stop(to);
+    stop(from);
+    stop(to);
+    stop(from);
+}
+"""
+FORMS = {
+    "1": [("an enum with an empty or refused variant", 2, "Found"), ("a flag in a struct", 11, "Line.found"), ("a function whose 0 is no refusal", 17, "judged"), ("a number tested against 0 and handed on", 21, "number")],
+    "3": [("a while that counts", 33, "i < to.len()")],
+    "4": [("an element copied by hand", 34, "to[i] = from[i];")],
+    "5": [("parameters rain, inflow", 17, "judged")],
+    "6": [("an array in a struct", 11, "Line")],
+    "7": [("a flag as a parameter", 27, "copied: first")],
+}
 IDLE = {"crates/low/specs/Water.antt": ["skip", "◌++◌"], "crates/low/src/lib.rt": ["second"]}
 
 
@@ -105,6 +163,11 @@ def main():
     idle = {str(path): names for path, names in unused.idle_imports(texts).items()}
     checks.hold(idle == IDLE, f"tools/unused.py finds idle {idle}")
     checks.hold(list(unused.lone_names(texts)) == ["wide"], f"tools/unused.py finds lone {unused.lone_names(texts)}")
+    for point, rows in forms.POINTS.items():
+        found = [(kind, int(place.removeprefix("x.rt:")), what) for kind, place, what in rows("x.rt", OLD_FORMS)]
+        checks.hold(found == FORMS[point], f"tools/forms.py finds of point {point} {found}")
+    alike = list(forms.twins([("x.rt", OLD_FORMS), ("y.rt", OLD_FORMS)]))
+    checks.hold(alike == [("a pair of like bodies", "x.rt", "copied, y.rt copied")], f"tools/forms.py finds twins {alike}")
     checks.end()
 
 

@@ -21,7 +21,7 @@ PAGE, README = TOP / "docs" / "TOOLS.md", TOP / "README.md"
 SAMPLES = TOP / "samples"
 # what tools begin with, those that look after the project itself, and the one that the programs' own scripts end with; all others are for the
 # warden and the keeper
-OWN = {"architecture", "begin", "believed", "desk_pace", "desk_speed", "dev", "edits", "header", "manual", "pictures", "places", "program_speed", "release", "sense", "spelling", "speed", "unused", "walks", "watched"}
+OWN = {"architecture", "begin", "believed", "desk_pace", "desk_speed", "dev", "edits", "forms", "header", "manual", "pictures", "places", "program_speed", "release", "sense", "spelling", "speed", "unused", "walks", "watched"}
 PROGRAMS = [f"bin/{name}" for name in ("meadow", "hatchlog", "drowned", "highest", "hours_wet", "boards", "repair", "to_survey", "from_survey")]
 FOR_PEOPLE = [*PROGRAMS, *(f"tools/{path.name}" for path in sorted((TOP / "tools").glob("*.py")) if path.stem not in OWN)]
 LEFT_OUT = "..."

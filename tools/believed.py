@@ -25,7 +25,7 @@ from rattle.specs import Specs
 TOP = Path(__file__).resolve().parent.parent
 # a little above what there is; a landing may raise it. 2,300 was set for all of document 02, and is passed: see docs/CHANGES.md. The desk and
 # its saved states are some 630 of them
-MOST = 3165
+MOST = 3210
 WORKED = "Worked"
 BELIEVED, LAYER, IDLE, INNER = "believed", "layers", "reached by nothing", "inner"
 

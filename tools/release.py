@@ -17,11 +17,11 @@ TOP = Path(__file__).resolve().parent.parent
 # folders that come in whole, under their own names
 WHOLE = ("bin", "docs", "examples", "python", "rust", "samples", "tools", "validation")
 # what is of no use without the sources, or is packed elsewhere
-LEFT_OUT = {"docs/RELEASE.md", "docs/PORT.md", "docs/man", "python/rattle"}
+LEFT_OUT = {"docs/RELEASE.md", "docs/PORT.md", "docs/DESIGN-PASS.md", "docs/man", "python/rattle"}
 LEFT_OUT |= {f"bin/{name}" for name in ("release", "setup", "speed", "test")}
 LEFT_OUT |= {
     f"tools/{name}.py"
-    for name in ("architecture", "believed", "dev", "edits", "header", "manual", "pictures", "places", "program_speed", "release", "spelling", "speed", "unused", "walks")
+    for name in ("architecture", "believed", "dev", "edits", "forms", "header", "manual", "pictures", "places", "program_speed", "release", "spelling", "speed", "unused", "walks")
 }
 # what stands elsewhere in the archive: its folder there, and the files here
 MOVED = {

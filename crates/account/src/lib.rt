@@ -41,12 +41,9 @@ pub fn water_on(shape: Shape, marks: &[u8], depths: &[u32]) -> u64
     requires { WaterLent (plan shape marks.now) depths.now depths.now }
     ensures { WaterOn (plan shape marks.now) depths.now result }
 {
-    let squares = squares_of(shape);
     let mut sum: u64 = 0;
-    let mut square = 0;
-    while square < squares {
+    for square in 0..squares_of(shape) {
         sum += water_in(marks, depths, square);
-        square += 1;
     }
     sum
 }
@@ -67,12 +64,9 @@ fn open_squares(shape: Shape, marks: &[u8]) -> u64
     requires { (ShapeInRange shape) × (length marks.now ≡ squares shape) }
     ensures { result ≡ open_squares (plan shape marks.now) }
 {
-    let squares = squares_of(shape);
     let mut count: u64 = 0;
-    let mut square = 0;
-    while square < squares {
+    for square in 0..squares_of(shape) {
         count += one_if_open(marks, square);
-        square += 1;
     }
     count
 }
@@ -93,12 +87,9 @@ fn inflow_gives(inflow: &[u32], apart: bool, side: u64, start: u64, end: u64) ->
     requires { (apart ≡ rows_apart inflow.now) × (Fits inflow_kind inflow.now end) × (start ≤ end) × (0 < side) × (side ≤ most_side) }
     ensures { result ≡ inflow_gives inflow.now side start end }
 {
-    let rows = inflow.len() / INFLOW_WIDTH;
     let mut sum: u64 = 0;
-    let mut j = 0;
-    while j < rows {
+    for j in 0..inflow.len() / INFLOW_WIDTH {
         sum += poured_once(inflow, apart, j, side, start, end);
-        j += 1;
     }
     sum
 }

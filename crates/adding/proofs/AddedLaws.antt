@@ -9,16 +9,17 @@ use native.Mathlib.Nat.{add-zero, zero-add}
 use native.Mathlib.Decide.{dec_lt, ℕ_discrete}
 use native.Mathlib.Omega.{arith}
 use lib.Dec.{leb, eqb}
-use lib.ListN.{length, get_or, set, take, drop, length-set, length-drop}
+use lib.ListN.{length, get_or, set, take, drop, replicate, length-set, length-drop}
+use Rattle.std.proofs.lemmas.List.{get_or-replicate, length-replicate}
 use lib.Seq.{ext_get_or, get_or-set_same, get_or-set_other, get_or-take, get_or-drop, length-take-le}
 use borrow.Author.Tests.{eqb-true, eq-eqb, ne_eqb, leb-true, le-leb, lt-leb, lt-ltb, not-true, not-false, ltb-true}
 use Rattle.reckon.specs.Tests.{pick, all_below}
-use Rattle.reckon.specs.Lists.{tabulate, filled, sum_below}
+use Rattle.reckon.specs.Lists.{filled, sum_below}
 use Rattle.reckon.specs.Ranges.{most_depth}
 use Rattle.reckon.specs.Tables.{rain_kind, inflow_kind, row_start, ran, row_gives, table_gives, on_square, rain_added, inflow_added, inflow_by}
 use Rattle.reckon.specs.Inner.Fits.{Fits}
 use Rattle.reckon.proofs.TestLaws.{not_both, pick_true, no_more, and_left, and_right, and_both, or_right, or_of, every_each, all_none, all_at, all_of, all_ext, all_fails, all_beside, all_whole, all_some}
-use Rattle.reckon.proofs.ListLaws.{length-tabulate, get_or-tabulate, is_tabulate, length-filled, filled_in, filled_skipped, sum_ext}
+use Rattle.reckon.proofs.ListLaws.{length-filled, filled_in, filled_skipped, sum_ext}
 use Rattle.reckon.proofs.SumLaws.{sum_one}
 use Rattle.reckon.proofs.TableLaws.{inflow_none, rain_le, fine_fits}
 use Rattle.grid.specs.Squares.{squares, square_at}
@@ -34,13 +35,6 @@ use Rattle.adding.specs.Added.{added_for}
 
 -- ---- rain
 
--- a room filled to its end, no place skipped
-pub stored_whole :
-    (amount : ℕ) (old : List ℕ) {n : ℕ} {new : List ℕ} → new ≡ filled n (λ k. false) (λ k. amount) old → n ≡ length old → new ≡ tabulate (length old) (λ i. amount)
-stored_whole amount old {n} e h =
-    is_tabulate (length old) (λ i. amount) _ (ap length e ∙ length-filled n (λ k. false) (λ k. amount) old)
-    (λ i l. ap (λ (x : List ℕ). get_or x i 0) e ∙ filled_in n (λ k. false) (λ k. amount) old i l (omega arith) refl)
-
 module _ {marks old : List ℕ} {rain : ℕ} where
   -- more rain than a square can hold: nothing is stored, and that is fine where every square is closed
   pub rain_too_deep : {shut-all : Bool} → most_depth < rain → shut-all ≡ all_below (length marks) (closed marks) → RainedAll marks rain old shut-all old
@@ -52,12 +46,12 @@ module _ {marks old : List ℕ} {rain : ℕ} where
       }
 
   pub rain_stored :
-      {new : List ℕ} → length old ≡ length marks → rain ≤ most_depth → new ≡ tabulate (length old) (λ i. rain) → RainedAll marks rain old true new
+      {new : List ℕ} → length old ≡ length marks → rain ≤ most_depth → new ≡ replicate (length old) rain → RainedAll marks rain old true new
   rain_stored l h e =
       record {
         fits_is = sym (all_of (length marks) _ (λ i k. or_of (closed marks i) _ (λ z. le-leb rain most_depth h)));
-        stored = λ t i k c. ap (λ (x : List ℕ). get_or x i 0) e ∙ get_or-tabulate (length old) (λ j. rain) i (omega arith);
-        long = ap length e ∙ length-tabulate (length old) (λ i. rain);
+        stored = λ t i k c. ap (λ (x : List ℕ). get_or x i 0) e ∙ get_or-replicate (length old) i rain 0 (omega arith);
+        long = ap length e ∙ length-replicate (length old) rain;
       }
 
 -- ---- rows that stand apart

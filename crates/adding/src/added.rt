@@ -1,7 +1,6 @@
 // What a step adds to each square: rain, worked once a step, and inflow, worked once for each of its rows.
 ghost use Rattle.std.specs.Prelude.{◌≡◌, true, ◌/◌, ◌≤◌, ◌<◌, length};
 ghost use Rattle.reckon.specs.Tests.{all_below};
-ghost use Rattle.reckon.specs.Lists.{tabulate};
 ghost use Rattle.reckon.specs.Ranges.{most_side};
 ghost use Rattle.reckon.specs.Tables.{inflow_added, inflow_kind, on_square};
 ghost use Rattle.reckon.specs.Inner.Fits.{Fits};
@@ -21,27 +20,12 @@ use reckon::tables::{INFLOW_WIDTH, inflow_added, rain_added, row_on};
 fn all_closed(marks: &[u8]) -> bool
     ensures { result ≡ all_below (length marks.now) (closed marks.now) }
 {
-    let squares = marks.len();
-    let mut square = 0;
-    while square < squares {
+    for square in 0..marks.len() {
         if !is_closed(marks, square) {
             return false;
         }
-        square += 1;
     }
     true
-}
-
-// Stores one amount at every place of a room.
-fn store_all(amount: u32, room: &mut [u32])
-    ensures { room.new ≡ tabulate (length room.old) (λ i. amount) }
-{
-    let places = room.len();
-    let mut place = 0;
-    while place < places {
-        room[place] = amount;
-        place += 1;
-    }
 }
 
 // Stores the rain at every square, unless a square not closed could not hold it. What stands at a
@@ -53,7 +37,7 @@ fn rain_all(marks: &[u8], rain: u64, room: &mut [u32]) -> bool
     if (MOST_DEPTH as u64) < rain {
         return all_closed(marks);
     }
-    store_all(rain as u32, room);
+    room.fill(rain as u32);
     true
 }
 
@@ -64,12 +48,10 @@ fn row_alone(inflow: &[u32], j: usize) -> bool
 {
     let row = number(inflow, INFLOW_WIDTH * j);
     let column = number(inflow, INFLOW_WIDTH * j + 1);
-    let mut k = 0;
-    while k < j {
+    for k in 0..j {
         if row_on(inflow, k, row, column) {
             return false;
         }
-        k += 1;
     }
     true
 }
@@ -78,13 +60,10 @@ fn row_alone(inflow: &[u32], j: usize) -> bool
 pub fn rows_apart(inflow: &[u32]) -> bool
     ensures { result ≡ rows_apart inflow.now }
 {
-    let rows = inflow.len() / INFLOW_WIDTH;
-    let mut j = 0;
-    while j < rows {
+    for j in 0..inflow.len() / INFLOW_WIDTH {
         if !row_alone(inflow, j) {
             return false;
         }
-        j += 1;
     }
     true
 }
@@ -177,13 +156,10 @@ fn pour_all(way: Way, inflow: &[u32], start: u64, end: u64, rain: u64, room: &mu
     requires { (Pours way.shape way.rules inflow.now start end rain) × (length room.old ≡ squares way.shape) × (way.apart ≡ rows_apart inflow.now) }
     ensures { PouredAll way.shape way.rules inflow.now start end rain room.old result room.new }
 {
-    let rows = inflow.len() / INFLOW_WIDTH;
-    let mut j = 0;
-    while j < rows {
+    for j in 0..inflow.len() / INFLOW_WIDTH {
         if !pour_row(way, inflow, start, end, rain, j, room) {
             return false;
         }
-        j += 1;
     }
     true
 }

@@ -53,10 +53,8 @@ fn put_squares(out: &mut [u8], at: usize, shape: Shape, marks: &[u8], depths: &[
 {
     let squares = squares_of(shape);
     let mut next = at;
-    let mut square: usize = 0;
-    while square < squares {
+    for square in 0..squares {
         next = put_square(out, next, shape, marks, depths, square);
-        square += 1;
     }
     next
 }

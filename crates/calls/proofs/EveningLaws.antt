@@ -4,13 +4,13 @@ use mathlib.Core.Path.{sym, ap, ◌∙◌, subst}
 use mathlib.Core.List.{List}
 use Prim.Native.Nat.{ℕ}
 use borrow.Author.Tests.{eq-eqb, ne_eqb}
+use Rattle.std.specs.Prelude.{Option, Some, None}
 use Rattle.reckon.specs.Tests.{refusal}
 use Rattle.reckon.proofs.TestLaws.{pick_true, pick_false}
 use Rattle.ledger.specs.Runs.{Plan}
 use Rattle.checks.specs.Given.{Given}
-use Rattle.hatches.specs.Lines.{log_line}
 use Rattle.hatches.specs.Log.{Evening, entry_refusals}
-use Rattle.evenings.specs.Taking.{entry_number, after_entry, TakesEntry}
+use Rattle.evenings.specs.Taking.{entry_number, after_entry, read_number, after_read, TakesEntry}
 use Rattle.evenings.specs.Shown.{TakesLine}
 use Rattle.evenings.specs.Program.{Stores, Begins, GoesOn}
 use Rattle.hatches.specs.declared.lines.Entry.{Entry}
@@ -20,7 +20,7 @@ use Rattle.demands.specs.Table.{FirstFails, TableSays}
 use Rattle.demands.proofs.Table.{table_says}
 use Rattle.demands.specs.HatchLog.{page_after, on, stores_with}
 use Rattle.demands.proofs.HatchRuns.{hatch_log_runs}
-use Rattle.calls.specs.Evenings.{AfterEntry, AfterLine, AfterBegin, AfterGoingOn}
+use Rattle.calls.specs.Evenings.{AfterEntry, AfterRead, AfterLine, AfterBegin, AfterGoingOn}
 
 module _ (p : Plan) (g : Given) (entry : Entry) (e : Evening) where
   -- the rows are a table
@@ -28,7 +28,7 @@ module _ (p : Plan) (g : Given) (entry : Entry) (e : Evening) where
   unfolding entry_refusals
   says = table_says _ tt
 
-  pub after-entry : {number : ℕ} {after : Evening} → TakesEntry p g entry e number after → AfterEntry p g entry e number after
+  after-entry : {number : ℕ} {after : Evening} → TakesEntry p g (Some entry) e number after → AfterEntry p g entry e number after
   unfolding entry_number after_entry page_after
   after-entry s =
       record {
@@ -42,12 +42,20 @@ module _ (p : Plan) (g : Given) (entry : Entry) (e : Evening) where
         goes_on = λ x q. ap (λ (at : Evening). after_entry p g at entry) q ∙ sym s.evening_is;
       }
 
+pub after_read-entry :
+    (p : Plan) (g : Given) (entry : Option Entry) (e : Evening) {number : ℕ} {after : Evening} → TakesEntry p g entry e number after → AfterRead p g entry e number after
+after_read-entry p g entry e t =
+    record {
+      said = λ x h. after-entry p g x e (record { number_is = t.number_is ∙ ap (read_number p g e) h; evening_is = t.evening_is ∙ ap (after_read p g e) h });
+      unread = λ h. (t.number_is ∙ ap (read_number p g e) h, t.evening_is ∙ ap (after_read p g e) h);
+    }
+
 pub after_line :
     (p : Plan) (g : Given) (s : List ℕ) (at line : ℕ) (e : Evening) {a : LineTaken} {after : Evening} {old new : List ℕ} →
     TakesLine p g s at line e a after old new → AfterLine p g s at line e a after old new
 after_line p g s at line e t =
     record {
-      entry_taken = after-entry p g (log_line s at).entry e (record { number_is = t.number_is; evening_is = t.evening_is });
+      entry_taken = after_read-entry p g _ e (record { number_is = t.number_is; evening_is = t.evening_is });
       next_is = t.next_is;
       prints = t.prints;
     }

@@ -26,7 +26,7 @@ use Rattle.flood.specs.declared.run.Ran.{Ran}
 use Rattle.grid.specs.declared.walks.Walk.TheVariants.{Wet}
 use Rattle.text.specs.Reading.{number_at, with_number, is_byte, newline}
 use Rattle.text.specs.declared.reading.Number.{Number}
-use Rattle.text.specs.declared.reading.Number.TheVariants.{Is, Not}
+use Rattle.std.proofs.Common.{Option, Some, None}
 use Rattle.text.specs.Writing.{Wrote}
 use Rattle.programs.specs.Program.{Prints, most_text}
 use Rattle.peaks.specs.Peaks.{depth_after, peak_of, peak_clock, peaks_over, clocks_over, peak_rows, peak_checks, RunsPeaking}
@@ -122,9 +122,9 @@ list_in_range : (s : List ℕ) → InRange (listed s)
 unfolding listed list_after
 list_in_range s = pick_both InRange (leb (length s) most_text) (go (number_at s 0)) (refused_out 0)
   where
-    go : (n : Number) → InRange (with_number n (list_refused 1) (list_after s))
-    go (Is wet q) = pick_both InRange (is_byte s q newline) (λ z. number_passes wet (names_from s (q + 1)) z) (refused_out 1)
-    go Not = refused_out 1
+    go : (n : Option Number) → InRange (with_number n (list_refused 1) (list_after s))
+    go (Some n) = pick_both InRange (is_byte s n.next newline) (λ z. number_passes n.value (names_from s (n.next + 1)) z) (refused_out 1)
+    go None = refused_out 1
 
 module _ (s : List ℕ) {a : Listed} (e : a ≡ listed s) where
   list_too_long : most_text < length s → a ≡ list_refused 0
@@ -140,15 +140,15 @@ module _ (s : List ℕ) {a : Listed} (e : a ≡ listed s) where
     unfolding list_after
     list_not_read none = by_first ∙ go (number_at s 0) refl
       where
-        go : (n : Number) → number_at s 0 ≡ n → with_number n (list_refused 1) (list_after s) ≡ list_refused 1
-        go (Is wet q) z = pick_false _ _ (no_more (is_byte s q newline) (λ t. none wet q (record { read = z; ended = t })))
-        go Not z = refl
+        go : (n : Option Number) → number_at s 0 ≡ n → with_number n (list_refused 1) (list_after s) ≡ list_refused 1
+        go (Some n) z = pick_false _ _ (no_more (is_byte s n.next newline) (λ t. none n.value n.next (record { read = z; ended = t })))
+        go None z = refl
 
     list-told : (wet q : ℕ) → FirstLine s wet q → ListTold wet (names_from s (q + 1)) a
     unfolding list_after list_number
     list-told wet q h =
         let z : a ≡ record { number = list_number wet (names_from s (q + 1)); line = 0; wet = wet; names = names_from s (q + 1) }
-        = by_first ∙ (ap (λ (n : Number). with_number n (list_refused 1) (list_after s)) h.read ∙ pick_true _ _ h.ended) in
+        = by_first ∙ (ap (λ (n : Option Number). with_number n (list_refused 1) (list_after s)) h.read ∙ pick_true _ _ h.ended) in
         record {
           depth_is = ap (λ (x : Listed). x.wet) z;
           names_are = ap (λ (x : Listed). x.names) z;

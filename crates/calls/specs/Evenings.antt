@@ -1,6 +1,6 @@
 -- What the caller of the hatch log's calls has, in document 02's words (#107).
 -- Assumes nothing.
-use Rattle.std.specs.Prelude.{◌≡◌, true, List, [], ◌∷◌, ◌++◌, ℕ, take}
+use Rattle.std.specs.Prelude.{◌≡◌, true, List, [], ◌∷◌, ◌++◌, ℕ, take, Option, Some, None}
 use Rattle.reckon.specs.Tests.{refusal}
 use Rattle.ledger.specs.Runs.{Plan}
 use Rattle.checks.specs.Given.{Given}
@@ -25,9 +25,14 @@ pub record AfterEntry (p : Plan) (g : Given) (entry : Entry) (e : Evening) (numb
   -- it is the next line of any evening, of which `HatchLog` speaks
   pub goes_on : (x : Page p g) → x.at ≡ e → (page_after p g (entry ∷ []) x).at ≡ after
 
+-- the same of a line of the log: one that can't be read is 12, and nothing changes
+pub record AfterRead (p : Plan) (g : Given) (entry : Option Entry) (e : Evening) (number : ℕ) (after : Evening) : Type 0 where
+  pub said : (x : Entry) → entry ≡ Some x → AfterEntry p g x e number after
+  pub unread : entry ≡ None → (number ≡ 12) × (after ≡ e)
+
 -- the same of the line at a position, and what is printed of it
 pub record AfterLine (p : Plan) (g : Given) (s : List ℕ) (at line : ℕ) (e : Evening) (a : LineTaken) (after : Evening) (old new : List ℕ) : Type 0 where
-  pub entry_taken : AfterEntry p g (log_line s at).entry e a.number after
+  pub entry_taken : AfterRead p g (log_line s at).entry e a.number after
   pub next_is : a.next ≡ (log_line s at).next
   pub prints : Prints (line_shown p g s at line e) old new a.length
 

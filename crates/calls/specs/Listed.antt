@@ -10,8 +10,7 @@ use Rattle.ledger.specs.Flows.{shut}
 use Rattle.checks.specs.Given.{Given}
 use Rattle.flood.specs.Run.{steps_on}
 use Rattle.flood.specs.declared.run.Ran.{Ran}
-use Rattle.text.specs.Reading.{number_at, is_byte, newline}
-use Rattle.text.specs.declared.reading.Number.TheVariants.{Is}
+use Rattle.text.specs.Reading.{number, number_at, is_byte, newline}
 use Rattle.programs.specs.Program.{most_text}
 use Rattle.peaks.specs.Peaks.{depth_after, peak_rows, peak_checks}
 use Rattle.peaks.specs.Highest.{highest_text}
@@ -55,7 +54,7 @@ pub record AfterHighest (s old new : List ℕ) (long : ℕ) : Type 0 where
 
 -- "a depth on its first line": the number that a text begins with, and its newline at q
 pub record FirstLine (s : List ℕ) (wet q : ℕ) : Type 0 where
-  pub read : number_at s 0 ≡ Is wet q
+  pub read : number_at s 0 ≡ number wet q
   pub ended : is_byte s q newline ≡ true
 
 -- what is told of a list whose first line was read: the depth, the names after it, and "a depth out of range is 5; over 200 sheets is 16"

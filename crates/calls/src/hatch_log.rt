@@ -6,7 +6,7 @@ ghost use Rattle.sheet.specs.Sheet.{rooms};
 ghost use Rattle.hatches.specs.Log.{evening};
 ghost use Rattle.evenings.specs.Program.{stores};
 ghost use Rattle.demands.specs.HatchLog.{stores_with};
-ghost use Rattle.calls.specs.Evenings.{AfterBegin, AfterEntry, AfterGoingOn, AfterLine};
+ghost use Rattle.calls.specs.Evenings.{AfterBegin, AfterRead, AfterGoingOn, AfterLine};
 
 use evenings::program::{Night, RATES_ROOM, begin_log, go_on};
 use evenings::taking::{EntryTaken, take_entry};
@@ -19,7 +19,7 @@ use reckon::tables::{INFLOW_ROOM, RAIN_ROOM};
 use rule::rules::Rules;
 
 pub fn after_take_entry(
-    entry: Entry,
+    entry: Option<Entry>,
     log: Log,
     shape: Shape,
     rules: Rules,
@@ -34,7 +34,7 @@ pub fn after_take_entry(
     records: &mut [u32],
     began: &mut [u32],
 ) -> EntryTaken
-    ensures { AfterEntry (plan shape marks.now) (given (ground rules beds.now roughness.now rates.now) rain.now inflow.now) entry (evening depths.old lasts.old records.old began.old log) result.number (evening depths.new lasts.new records.new began.new result.log) }
+    ensures { AfterRead (plan shape marks.now) (given (ground rules beds.now roughness.now rates.now) rain.now inflow.now) entry (evening depths.old lasts.old records.old began.old log) result.number (evening depths.new lasts.new records.new began.new result.log) }
 {
     take_entry(
         entry, log, shape, rules, marks, beds, roughness, rates, rain, inflow, depths, lasts,

@@ -39,11 +39,8 @@ module _ {r t : Bool} (e : r ≡ t) where
   pub holds_by : not r ≡ false → t ≡ true
   holds_by h = sym e ∙ not-false r h
 
--- a test is skipped where the one before it holds, and decides where that fails
+-- a test decides where the one before it fails
 module _ {a : Bool} (b : Bool) where
-  pub or_skipped : a ≡ true → true ≡ (a || b)
-  or_skipped e = rw e
-
   pub or_decided : a ≡ false → {r : Bool} → r ≡ b → r ≡ (a || b)
   or_decided e q = rw e q
 

@@ -68,11 +68,8 @@ fn clear_lasts(shape: Shape, marks: &[u8], lasts: &mut [u32])
     requires { (Marked shape marks.now) × (length lasts.old ≡ squares shape) }
     ensures { lasts.new ≡ filled (squares shape) (closed marks.now) (λ i. 0) lasts.old }
 {
-    let squares = squares_of(shape);
-    let mut square = 0;
-    while square < squares {
+    for square in 0..squares_of(shape) {
         clear_last(marks, square, lasts);
-        square += 1;
     }
 }
 

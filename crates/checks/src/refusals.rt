@@ -49,13 +49,10 @@ fn grounds_fine(shape: Shape, marks: &[u8], beds: &[u32], roughness: &[u32], rat
     requires { (Marked shape marks.now) × (length beds.now ≡ squares shape) × (length roughness.now ≡ squares shape) × (length rates.now ≡ squares shape) }
     ensures { (rules : Declared.Rules) → result ≡ grounds_fine (plan shape marks.now) (ground rules beds.now roughness.now rates.now) }
 {
-    let squares = squares_of(shape);
-    let mut square = 0;
-    while square < squares {
+    for square in 0..squares_of(shape) {
         if !ground_at_fine(marks, beds, roughness, rates, square) {
             return false;
         }
-        square += 1;
     }
     true
 }

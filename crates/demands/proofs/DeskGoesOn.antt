@@ -15,7 +15,7 @@ use Rattle.checks.specs.Given.{Given}
 use Rattle.checks.specs.Bounds.{bounds_of, bounds_number}
 use Rattle.frames.specs.Bounds.{bounds_text}
 use Rattle.hatches.specs.Log.{Evening}
-use Rattle.hatches.specs.declared.lines.Entry.TheVariants.{Hatch, Rate, Back, Unread}
+use Rattle.hatches.specs.declared.lines.Entry.TheVariants.{Hatch, Rate, Back}
 use Rattle.evenings.specs.Program.{Stores}
 use Rattle.stands.specs.Texts.{stand_word, start_word, given_word, first_text, head_text, total_text, hatches_text, squares_text, stand_text}
 use Rattle.trying.specs.Lines.{Came, came, step_came}
@@ -121,7 +121,6 @@ module _ (p : Plan) (g : Given) where
     line_alike text (Entered (Back count)) l z s c =
         let A = one_came (going_back count) c in by_number A (shown_alike A) (plainly_alike A)
     line_alike text (Entered (Rate clock n litres)) l z s c = same_told refl refl
-    line_alike text (Entered Unread) l z s c = same_told refl refl
     line_alike text (Draw n litres) l z s c = plainly_alike (one_came (drawing n litres) c)
     line_alike text (Step count end every') l z s c =
         pick_two ToldAlike (eqb (refusal (step_refusals p x.at x.account count end every')) 0) (same_told refl refl) (same_told refl refl)

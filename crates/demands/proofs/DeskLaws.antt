@@ -6,6 +6,7 @@ use mathlib.Core.Bool.{Bool, true, false}
 use mathlib.Core.List.{List, [], ◌∷◌, ◌++◌, map}
 use Prim.Native.Nat.{ℕ, zero, suc, ◌+◌, ◌-◌, ◌*◌, ◌≤◌, ◌<◌}
 use native.Mathlib.Omega.{arith}
+use Rattle.std.proofs.Common.{Option, Some, None}
 use native.Mathlib.Decide.{ℕ_discrete}
 use lib.Dec.{eqb}
 use lib.ListN.{length, get_or, set, drop, length-append, length-map, length-set, length-replicate}
@@ -714,14 +715,14 @@ unfolding named_from with_hatch if_hatch pick
 nine_laid s q zero = refl
 nine_laid s q (suc n) = go (line_of s (named_from s q n).next hatch_word hatch_fields) (nine_laid s q n)
   where
-    by : (f : Fields) (b c : Bool) → length (named_from s q n).litres ≡ most_hatches →
-        length (pick b (pick c (hatch_added (named_from s q n) n f) (named_from s q n)) (named_from s q n)).litres ≡ most_hatches
-    by f true true h = length-set (named_from s q n).litres n (get_or f.values 3 0) ∙ h
-    by f true false h = h
-    by f false c h = h
+    by : (f : Fields) (c : Bool) → length (named_from s q n).litres ≡ most_hatches →
+        length (pick c (hatch_added (named_from s q n) n f) (named_from s q n)).litres ≡ most_hatches
+    by f true h = length-set (named_from s q n).litres n (get_or f.values 3 0) ∙ h
+    by f false h = h
 
-    go : (f : Fields) → length (named_from s q n).litres ≡ most_hatches → length (if_hatch (named_from s q n) n f).litres ≡ most_hatches
-    go f h = by f f.found (eqb (get_or f.values 0 0) (n + 1)) h
+    go : (f : Option Fields) → length (named_from s q n).litres ≡ most_hatches → length (if_hatch (named_from s q n) n f).litres ≡ most_hatches
+    go (Some f) h = by f (eqb (get_or f.values 0 0) (n + 1)) h
+    go None h = h
 
 checks_none : (line number : ℕ) → number_of line number ≡ 0 → number ≡ 0
 unfolding number_of

@@ -34,7 +34,7 @@ use Rattle.frames.specs.Arrows.{arrows_text}
 use Rattle.frames.proofs.FrameLaws.{frame_same}
 use Rattle.hatches.specs.Log.{Evening, evening, most_hatches, log_with, rates_kept, rates_back}
 use Rattle.hatches.specs.declared.log.Log.{Log}
-use Rattle.hatches.specs.declared.lines.Entry.TheVariants.{Hatch, Rate, Back, Unread}
+use Rattle.hatches.specs.declared.lines.Entry.TheVariants.{Hatch, Rate, Back}
 use Rattle.evenings.specs.Program.{Stores}
 use Rattle.evenings.specs.Taking.{world_of, back_from, after_back}
 use Rattle.stands.specs.Texts.{square_text, squares_text, stand_text, head_text, hatches_text}
@@ -304,7 +304,6 @@ module _ (p : Plan) where
     line_told r inflow text (Entered (Hatch n row column)) l = record { evening = with-log _; account = refl; series = refl; text = refl }
     line_told r inflow text (Entered (Back count)) l = back-told count
     line_told r inflow text (Entered (Rate clock n litres)) l = looks_same no_series refl
-    line_told r inflow text (Entered Unread) l = looks_same no_series refl
     line_told r inflow text (Draw n litres) l = record { evening = with-log _; account = refl; series = refl; text = refl }
     line_told r inflow text (Step count end every') l =
         pick_two SameTold (eqb (refusal (step_refusals p e a count end every')) 0) (looks_same _ refl) (looks_same no_series refl)
@@ -326,7 +325,6 @@ unfolding lays_down is_sheet deed_of
 plain_line d r on (Entered (Hatch n row column)) l = (refl, tt)
 plain_line d r on (Entered (Back count)) l = (refl, tt)
 plain_line d r on (Entered (Rate clock n litres)) l = (refl, tt)
-plain_line d r on (Entered Unread) l = (refl, tt)
 plain_line d r on (Draw n litres) l = (refl, tt)
 plain_line d r on (Step count end every') l = (refl, tt)
 plain_line d r on Show l = (refl, tt)

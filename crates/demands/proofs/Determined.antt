@@ -4,6 +4,7 @@ use mathlib.Core.Path.{◌≡◌, sym, ap, ap₂, ◌∙◌}
 use mathlib.Core.List.{List, ◌++◌}
 use lib.ListN.{length, replicate, length-replicate, take-append-drop}
 use Prim.Native.Nat.{ℕ}
+use Rattle.std.specs.Prelude.{Option}
 use Rattle.reckon.specs.Outcomes.{One}
 use Rattle.reckon.proofs.OutcomeLaws.{exactly}
 use Rattle.rule.specs.declared.rules.Rules.{Rules}
@@ -173,7 +174,7 @@ held_one {n} {a = a} {b} x y =
     sym (take-append-drop n a) ∙ (ap₂ (λ (l m : List ℕ). l ++ m) (x.first ∙ sym y.first) (x.rest ∙ sym y.rest) ∙ take-append-drop n b)
 
 entry_one :
-    {p : Plan} {g : Given} {entry : Entry} {e : Evening} →
+    {p : Plan} {g : Given} {entry : Option Entry} {e : Evening} →
     One {Out = EntryTaken × (List ℕ × (List ℕ × (List ℕ × List ℕ)))}
     (λ o. TakesEntry p g entry e o.0.number (evening o.1.0 o.1.1.0 o.1.1.1.0 o.1.1.1.1 o.0.log))
 entry_one a b x y =

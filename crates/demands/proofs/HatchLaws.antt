@@ -28,7 +28,7 @@ use Rattle.evenings.specs.Shown.{stands_text}
 use Rattle.hatches.proofs.RefusalLaws.{entered_is, back_kept}
 use Rattle.evenings.proofs.BackLaws.{backs, Backed, backed}
 use Rattle.hatches.specs.declared.lines.Entry.{Entry}
-use Rattle.hatches.specs.declared.lines.Entry.TheVariants.{Hatch, Rate, Back, Unread}
+use Rattle.hatches.specs.declared.lines.Entry.TheVariants.{Hatch, Rate, Back}
 use Rattle.hatches.specs.declared.log.Hatches.{Hatches}
 use Rattle.demands.specs.Demand3.{Call, running, taking_back, Trail, start, called, series, alone, AllMade, Fresh, NeverMade}
 use Rattle.demands.specs.HatchLog.{Notes, noted_back, noted_with, noted_after, Page, first_page, page_after, only_standing, LeavesNoMark, Opens, HatchLog, SeasonUntouched}
@@ -317,7 +317,6 @@ module _ (p : Plan) (g : Given) (f : World) (fresh : Fresh p f) where
     follow_made (Hatch n row column) z = follow_hatch n row column (every_each _ (entered_is p g e (Hatch n row column) z).line).0
     follow_made (Rate clock n litres) z = follow_rate clock n litres
     follow_made (Back count) z = follow_back count (back_kept e.log count (entered_is p g e (Back count) z).kept)
-    follow_made Unread z = h
 
     -- any line
     follow_line : (entry : Entry) → Follows earlier (record { at = after_entry p g e entry; noted = noted_after p g e entry m })

@@ -7,6 +7,8 @@ use mathlib.Core.List.{List, [], ◌∷◌, ◌++◌, append_assoc}
 use Prim.Native.Nat.{ℕ, zero, suc, ◌+◌, ◌/◌, ◌%◌, ◌≤◌, ◌<◌}
 use native.Mathlib.Nat.{div-le_self, mod-le}
 use native.Mathlib.Omega.{arith}
+use Rattle.std.proofs.Common.{Option, Some}
+use Rattle.std.specs.Prelude.{is_some, option_map}
 use lib.Dec.{eqb}
 use lib.ListN.{length, get_or, replicate, length-append, length-replicate, get_or-replicate}
 use lib.Seq.{ext_get_or}
@@ -30,9 +32,8 @@ use Rattle.text.proofs.StandLaws.{stands_first, stands_second, stands_within, by
 use Rattle.text.proofs.LineLaws.{plain_both, plain_fields}
 use Rattle.sheet.specs.Lines.{cell_word, x_letter, o_letter, letter_of, line_head, closed_cell, as_open, open_cell, marked_cell, placed_cell, cell_line}
 use Rattle.sheet.specs.declared.lines.CellLine.{CellLine}
-use Rattle.sheet.specs.Sheet.{Rooms, rooms, cell_from, closed_from, cells_read, line_one, line_two, shape_of, cells_at, after_all, bad_line, cells_filled, said, rooms_fine, plan_in, checks_in, checks_of, heading_of, judged, sheet_of}
+use Rattle.sheet.specs.Sheet.{Rooms, rooms, has_cell, cell_or, cell_from, closed_from, cells_read, line_one, line_two, shape_of, cells_at, after_all, bad_line, cells_filled, said, rooms_fine, plan_in, checks_in, checks_of, heading_of, judged, sheet_of}
 use Rattle.sheet.specs.Written.{ground_at, cell_written, lines_written, sheet_written}
-use Rattle.sheet.specs.declared.lines.GridLine.{GridLine}
 use Rattle.sheet.specs.declared.lines.RunLine.{RunLine}
 use Rattle.sheet.specs.declared.reading.Heading.{Heading}
 use Rattle.sheet.specs.declared.reading.Sheet.TheVariants.{Read}
@@ -45,7 +46,7 @@ use Rattle.checks.specs.Given.{ground}
 use Rattle.checks.specs.Refusals.{square_ground_fine, grounds_fine, check_refusals}
 use Rattle.programs.specs.Program.{program_rooms}
 use Rattle.survey.specs.Inner.Writing.{Sayable}
-use Rattle.survey.proofs.LinesBack.{Line, one_back, two_back, shape_back, side_back, cell_at, rain_table_back, inflow_table_back, after-back, heading_back}
+use Rattle.survey.proofs.LinesBack.{Line, one_there, two_there, two_back, shape_back, side_back, cell_at, rain_table_back, inflow_table_back, after-back, heading_back}
 use Rattle.survey.proofs.NoteBack.{plain_head}
 use Rattle.survey.proofs.SayableLaws.{Column, sayable, marks_long, roughness_column, depth-column, rate_column}
 use Rattle.holes.specs.Rounds.{no_bed, after_rounds, filled_beds, BedsSeen}
@@ -60,13 +61,13 @@ use Rattle.holes.proofs.RepairsLaws.{repairs}
 -- ---- a square's line
 
 -- what a line says: it is found, its mark, and the numbers of a square not closed
-pub record Says (c : CellLine) (m b k d r : ℕ) : Type 0 where
-  pub found : c.found ≡ true
-  pub mark : c.mark ≡ m
-  pub bed : (m ≡ 0 → ⊥) → c.bed ≡ b
-  pub roughness : (m ≡ 0 → ⊥) → c.roughness ≡ k
-  pub depth : (m ≡ 0 → ⊥) → c.depth ≡ d
-  pub rate : (m ≡ 0 → ⊥) → c.rate ≡ r
+pub record Says (line : Option CellLine) (m b k d r : ℕ) : Type 0 where
+  pub found : is_some line ≡ true
+  pub mark : (cell_or line).mark ≡ m
+  pub bed : (m ≡ 0 → ⊥) → (cell_or line).bed ≡ b
+  pub roughness : (m ≡ 0 → ⊥) → (cell_or line).roughness ≡ k
+  pub depth : (m ≡ 0 → ⊥) → (cell_or line).depth ≡ d
+  pub rate : (m ≡ 0 → ⊥) → (cell_or line).rate ≡ r
 
 parts : (a b c d : List ℕ) → (a ++ (b ++ c)) ++ d ≡ a ++ (b ++ (c ++ d))
 parts a b c d = append_assoc a (b ++ c) d ∙ ap (λ (l : List ℕ). a ++ l) (append_assoc b c d)
@@ -110,8 +111,8 @@ module _ {s : List ℕ} {p q : ℕ} (row column m : ℕ) (vs : List ℕ) (place 
   unfolding cell_line placed_cell as_fields padded tabulate
   placed_is =
       pick_true _ _ word_is
-      ∙ (ap (λ (r : Reading.Reading). placed_cell s row column (as_fields (p + length cell_word) r)) fields_are
-      ∙ (pick_true _ _ refl ∙ (pick_true _ _ (eq-eqb row row refl) ∙ pick_true _ _ (eq-eqb column column refl))))
+      ∙ (ap (λ (r : Reading.Reading). placed_cell s row column (as_fields r)) fields_are
+      ∙ (pick_true _ _ (eq-eqb row row refl) ∙ pick_true _ _ (eq-eqb column column refl)))
 
   letter_at : StandsAt s (end + 1) (letter_of m ∷ rest_text vs) q
   letter_at = stands_second (tab ∷ []) (letter_of m ∷ rest_text vs) third
@@ -134,13 +135,13 @@ module _ (s : List ℕ) (p q row column b k d r : ℕ) (place : Readable (row �
   unfolding marked_cell closed_cell letter_of rest_text fields_text
   says_closed a =
       let e : ℕ = end {s = s} {p = p} {q = q} row column 0 [] place a in
-      let line : cell_line s p row column ≡ record { found = true; mark = 0; bed = 0; roughness = 0; depth = 0; rate = 0; next = e + 2 + 1 } =
+      let line : cell_line s p row column ≡ Some (record { mark = 0; bed = 0; roughness = 0; depth = 0; rate = 0; next = e + 2 + 1 }) =
       placed_is row column 0 [] place a
       ∙ (pick_true _ _ (byte_stands (third row column 0 [] place a)).1
       ∙ (pick_true _ _ (byte_stands (letter_at row column 0 [] place a)).1 ∙ pick_true _ _ (byte_stands (rest_at row column 0 [] place a)).1)) in
       record {
-        found = ap (λ (c : CellLine). c.found) line;
-        mark = ap (λ (c : CellLine). c.mark) line;
+        found = ap is_some line;
+        mark = ap (λ (c : Option CellLine). (cell_or c).mark) line;
         bed = λ z. absurd (z refl);
         roughness = λ z. absurd (z refl);
         depth = λ z. absurd (z refl);
@@ -150,14 +151,14 @@ module _ (s : List ℕ) (p q row column b k d r : ℕ) (place : Readable (row �
   open_said : (m e : ℕ) → Readable (four b k d r) → StandsAt s (e + 2) (rest_text (four b k d r)) q → cell_line s p row column ≡ open_cell s (e + 2) m → Says (cell_line s p row column) m b k d r
   unfolding open_cell as_open as_fields padded tabulate
   open_said m e small rest line =
-      let w = line ∙ ap (λ (z : Reading.Reading). as_open m (as_fields (e + 2) z)) (rest_back (four b k d r) rest small) in
+      let w = line ∙ ap (λ (z : Reading.Reading). option_map (as_open m) (as_fields z)) (rest_back (four b k d r) rest small) in
       record {
-        found = ap (λ (c : CellLine). c.found) w;
-        mark = ap (λ (c : CellLine). c.mark) w;
-        bed = λ z. ap (λ (c : CellLine). c.bed) w;
-        roughness = λ z. ap (λ (c : CellLine). c.roughness) w;
-        depth = λ z. ap (λ (c : CellLine). c.depth) w;
-        rate = λ z. ap (λ (c : CellLine). c.rate) w;
+        found = ap is_some w;
+        mark = ap (λ (c : Option CellLine). (cell_or c).mark) w;
+        bed = λ z. ap (λ (c : Option CellLine). (cell_or c).bed) w;
+        roughness = λ z. ap (λ (c : Option CellLine). (cell_or c).roughness) w;
+        depth = λ z. ap (λ (c : Option CellLine). (cell_or c).depth) w;
+        rate = λ z. ap (λ (c : Option CellLine). (cell_or c).rate) w;
       }
 
   says_open : Readable (four b k d r) → StandsAt s p (line_head row column 1 ++ rest_text (four b k d r)) q → Says (cell_line s p row column) 1 b k d r
@@ -210,13 +211,16 @@ module _ (h : Heading) (held : Rooms) (say : Sayable h held)
         same = sym (append_assoc t (fields_text (ground_at held i)) (newline ∷ []));
       }
 
+  abbrev told : ℕ → Option CellLine
+  told i = cell_line U (line_from U (cells_at U) i) (i / (shape_of U).columns) (i % (shape_of U).columns)
+
   abbrev line : ℕ → CellLine
   line i = cell_from U (cells_at U) (shape_of U).columns i
 
   same_columns : (shape_of U).columns ≡ h.shape.columns
   same_columns = ap (λ (g : Shape). g.columns) (shape_back h held say cell lined)
 
-  line_says : (i : ℕ) → i < squares h.shape → Says (line i) (get_or held.cells.marks i 0) (get_or held.cells.beds i 0) (get_or held.cells.roughness i 0) (get_or held.cells.depths i 0) (get_or held.cells.rates i 0)
+  line_says : (i : ℕ) → i < squares h.shape → Says (told i) (get_or held.cells.marks i 0) (get_or held.cells.beds i 0) (get_or held.cells.roughness i 0) (get_or held.cells.depths i 0) (get_or held.cells.rates i 0)
   unfolding cell_written ground_at closed
   line_says i l =
       subst (λ (g : ℕ). Says (cell_line U (line_from U (cells_at U) i) (i / g) (i % g)) (get_or held.cells.marks i 0) (get_or held.cells.beds i 0) (get_or held.cells.roughness i 0) (get_or held.cells.depths i 0) (get_or held.cells.rates i 0))
@@ -230,9 +234,9 @@ module _ (h : Heading) (held : Rooms) (say : Sayable h held)
   no_bad =
       let same = ap squares (shape_back h held say cell lined) in
       let all : cells_read U (cells_at U) (shape_of U) ≡ squares (shape_of U) =
-      failing_none (squares (shape_of U)) (λ i. (line i).found) (λ i l. (line_says i (omega (arith, l, same))).found) in
+      failing_none (squares (shape_of U)) (has_cell U (cells_at U) (shape_of U).columns) (λ i l. (line_says i (omega (arith, l, same))).found) in
       passed_refusal _ (
-        ap (λ (g : RunLine). g.found) (two_back h held say cell lined),
+        ap is_some (two_there h held say cell lined),
         (
           le-leb (squares (shape_of U)) (cells_read U (cells_at U) (shape_of U)) (omega (arith, all)),
           (le-leb (length U) (after_all U) (omega (arith, after-back h held say cell lined)), tt),
@@ -448,7 +452,7 @@ module _ (s : List ℕ) (h : Heading) (e : Read h ≡ sheet_of (plugged s) progr
   reads : sheet_of T program_rooms ≡ Read h
   unfolding sheet_of judged
   reads =
-      pick_true _ _ (ap (λ (g : GridLine). g.found) (one_back h after say _ (lined h after say small few)))
+      pick_true _ _ (ap is_some (one_there h after say _ (lined h after say small few)))
       ∙ (pick_true _ _ fine
       ∙ (rw (no_bad h after say small few, passes) (ap Read (heading_back h after say _ (lined h after say small few)))))
 

@@ -48,7 +48,7 @@ use Rattle.desks.specs.declared.orders.Order.{Order}
 use Rattle.desks.specs.declared.orders.Order.TheVariants.{Sheet, Entered, Draw, Step, Show, Arrows, Most, Stand, Lay, NoOrder}
 use Rattle.desks.specs.declared.state.Desk.{Desk}
 use Rattle.desks.specs.declared.state.Series.{Series}
-use Rattle.hatches.specs.declared.lines.Entry.TheVariants.{Hatch, Rate, Back, Unread}
+use Rattle.hatches.specs.declared.lines.Entry.TheVariants.{Hatch, Rate, Back}
 use Rattle.demands.specs.Desk as deeds
 use Rattle.demands.specs.Desk.{Deed, naming, drawing, one_step, going_back, deed_came, desk_with, desk_after}
 use Rattle.desks.proofs.RoomLaws.{ready_fine}
@@ -204,7 +204,6 @@ module _ (p : Plan) (g : Given) (e : Evening) (a : Account) where
   line_tells text (Entered (Back count)) l =
       pick_both (Tells (going_back count ∷ [])) (eqb (back_came p e a count).number 0) (done_by (going_back count) _ refl refl) (done_by (going_back count) _ refl refl)
   line_tells text (Entered (Rate clock n litres)) l = still _ refl refl
-  line_tells text (Entered Unread) l = still _ refl refl
   line_tells text (Draw n litres) l = done_by (drawing n litres) _ refl refl
   line_tells text (Step count end every') l =
       pick_both (Tells []) (eqb (refusal (step_refusals p e a count end every')) 0) (still _ refl refl) (still _ refl refl)
@@ -359,7 +358,6 @@ module _ (d : Desk) (r : Stores) (on : OnDesk d r) where
   one_of (Entered (Hatch n row column)) = tt
   one_of (Entered (Back count)) = tt
   one_of (Entered (Rate clock n litres)) = tt
-  one_of (Entered Unread) = tt
   one_of (Draw n litres) = tt
   one_of (Sheet bytes) = tt
   one_of (Lay bytes) = tt
@@ -378,7 +376,6 @@ module _ (d : Desk) (r : Stores) (on : OnDesk d r) where
       (record { before = state_text P (back_came P E d.account count).evening.log (back_came P E d.account count).account (back_came P E d.account count).evening.depths; text_is = refl })
       (record { before = []; text_is = refl })
   tells_ends text (Entered (Rate clock n litres)) l = tt
-  tells_ends text (Entered Unread) l = tt
   tells_ends text (Draw n litres) l = record { before = []; text_is = refl }
   tells_ends text (Step count end every') l = tt
   tells_ends text Show l = tt

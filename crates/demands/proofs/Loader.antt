@@ -20,7 +20,7 @@ use Rattle.checks.specs.Refusals.{check_refusals}
 use Rattle.text.specs.Reading.{line_from}
 use Rattle.text.proofs.LineLaws.{line_add}
 use Rattle.sheet.specs.Lines.{x_letter, letter_of, line_head}
-use Rattle.sheet.specs.Sheet.{Rooms, Reads, cell_from, cells_at, cells_read, closed_from, cells_filled, rooms_filled, rooms_after, line_one, shape_of, rooms_fine, bad_line, checks_in, checks_of, heading_of, judged, sheet_of}
+use Rattle.sheet.specs.Sheet.{Rooms, Reads, has_one, has_cell, cell_from, cells_at, cells_read, closed_from, cells_filled, rooms_filled, rooms_after, line_one, shape_of, rooms_fine, bad_line, checks_in, checks_of, heading_of, judged, sheet_of}
 use Rattle.programs.specs.Program.{ended_text, run_text, meadow_text, sheet_text}
 use Rattle.sheet.specs.declared.reading.Heading.{Heading}
 use Rattle.sheet.specs.declared.reading.Sheet.{Sheet}
@@ -70,7 +70,7 @@ module _ (s : List ℕ) (lent : Rooms) where
 
   pub sheet-number : sheet_number (sheet_of s lent) ≡ refusal (sheet_refusals s lent)
   unfolding sheet_of
-  sheet-number = number_by (line_one s).found (rooms_fine (shape_of s) (line_one s).side lent) (bad_line s) (checks_of s) _ checks_are
+  sheet-number = number_by (has_one s) (rooms_fine (shape_of s) (line_one s).side lent) (bad_line s) (checks_of s) _ checks_are
 
   read_by : (first rooms_good : Bool) (bad check : ℕ) → sheet_number (answer first rooms_good bad check) ≡ 0 → answer first rooms_good bad check ≡ Read (heading_of s)
   unfolding sheet_number judged pick
@@ -83,7 +83,7 @@ module _ (s : List ℕ) (lent : Rooms) where
   -- no number is that of a sheet that is read
   pub sheet_read : sheet_number (sheet_of s lent) ≡ 0 → sheet_of s lent ≡ Read (heading_of s)
   unfolding sheet_of
-  sheet_read z = read_by (line_one s).found (rooms_fine (shape_of s) (line_one s).side lent) (bad_line s) (checks_of s) z
+  sheet_read z = read_by (has_one s) (rooms_fine (shape_of s) (line_one s).side lent) (bad_line s) (checks_of s) z
 
   line_first : (first rooms_good : Bool) (bad check : ℕ) → first ≡ false → sheet_line (answer first rooms_good bad check) ≡ 1
   unfolding sheet_line pick
@@ -163,7 +163,7 @@ module _ (s : List ℕ) (before after : Rooms) (h : Heading) (R : Reads s before
 
   passes : Passes
   unfolding sheet_of judged pick
-  passes = go (line_one s).found (rooms_fine (shape_of s) (line_one s).side before) (bad_line s) (checks_of s) refl refl R.answer
+  passes = go (has_one s) (rooms_fine (shape_of s) (line_one s).side before) (bad_line s) (checks_of s) refl refl R.answer
     where
       never : {number line : ℕ} → Read h ≡ Refused number line → Passes
       never e = absurd (let z : ◌≡◌ {A = ℕ} 0 1 = cc in omega arith)
@@ -190,11 +190,11 @@ module _ (s : List ℕ) (before after : Rooms) (h : Heading) (R : Reads s before
   second true false c j k q = absurd (omega (arith, q))
   second true true c j k q = refl
 
-  found : (i : ℕ) → i < n → (cell_from s (cells_at s) (shape_of s).columns i).found ≡ true
+  found : (i : ℕ) → i < n → has_cell s (cells_at s) (shape_of s).columns i ≡ true
   unfolding bad_line cells_read
   found i l =
       let all = leb-true n _ (second _ _ _ _ _ passes.text_good) in
-      failing_before n (λ k. (cell_from s (cells_at s) (shape_of s).columns k).found) i (omega (arith, all))
+      failing_before n (has_cell s (cells_at s) (shape_of s).columns) i (omega (arith, all))
 
   good_marks : n ≤ length before.cells.marks
   good_marks = (rooms_cells (shape_of s) (line_one s).side before passes.rooms_good).0

@@ -33,7 +33,7 @@ use Rattle.checks.specs.Fresh.{fresh_run}
 use Rattle.flood.specs.Run.{go_on, run_from, run_to}
 use Rattle.text.specs.Reading.{is_byte, word_at, is_digit, digits_of, value_from, well_formed, number_from, number_at, field_at, before, read_fields, line_ended, read_rest, read_line, padded, as_fields, line_length, next_line, line_from}
 use Rattle.text.specs.Writing.{digits_in, decimal, field_text, fields_text, rest_text, line_text}
-use Rattle.sheet.specs.Lines.{as_grid, grid_line, as_run, run_line, no_cell, closed_cell, as_open, open_cell, marked_cell, placed_cell, cell_line}
+use Rattle.sheet.specs.Lines.{as_grid, grid_line, as_run, run_line, closed_cell, as_open, open_cell, marked_cell, placed_cell, cell_line}
 use Rattle.sheet.specs.Sheet.{rooms, cells_rooms, shape_of, line_two, rain_table, inflow_table, said, cells_read, rows_read, table_rows, bad_line, cells_filled, rooms_filled, rooms_fine, checks_in, heading_of, judged, sheet_of}
 use Rattle.answer.specs.Printed.{refused_text, cell_text, cells_text, totals_text, made_text}
 use Rattle.programs.specs.Program.{ended_text, run_text, meadow_text}
@@ -102,7 +102,7 @@ record Texts : Type 0 where
   column : meadow_in column_sheet ≡ column_meadow
 
 texts : Texts
-unfolding pick every all_below first_failing refusal tabulate filled joined placed is_byte word_at is_digit digits_of value_from well_formed number_from number_at field_at before read_fields line_ended read_rest read_line padded as_fields line_length next_line line_from as_grid grid_line as_run run_line no_cell closed_cell as_open open_cell marked_cell placed_cell cell_line cells_read rows_read table_rows cells_filled bytes_of
+unfolding pick every all_below first_failing refusal tabulate filled joined placed is_byte word_at is_digit digits_of value_from well_formed number_from number_at field_at before read_fields line_ended read_rest read_line padded as_fields line_length next_line line_from as_grid grid_line as_run run_line closed_cell as_open open_cell marked_cell placed_cell cell_line cells_read rows_read table_rows cells_filled bytes_of
 texts = record { document = refl; exit = refl; level = refl; soak = refl; column = refl }
 
 -- ---- the steps
@@ -177,45 +177,45 @@ number_cases =
 -- ---- what `meadow` prints
 
 printed : meadow_text (bytes_of document_sheet) ≡ bytes_of document_output
-unfolding pick every all_below first_failing refusal tabulate filled joined placed sum_below water_fine root_from root_of row_gives table_gives rain_by on_square inflow_by row_fine table_fine slot_after slot_before ring_fine record_in beside opposite on_rim shape_fine closed exit mark_fine marks_fine inflow_square_fine inflow_squares_fine drop_off candidate counts side_candidates candidates_of least_from held_between fresh_length is_update length_at duration_for side_fine rate_fine ground_fine rules_fine lesser_positive least_drop greatest_drop drop_sum height_of slope_of critical_speed manning_speed speed_of most_through total_of through_sides nothing_unless weighted_sides weighed run_values_fine run_fine gone sent came off_side off_square off_grid soaked_square soaked_grid leaves_in last_in added_in soaked_in square_record record_of room_slots newest_record remains new_depth depths_fit new_outflow new_soaked late_refusals step_record world_after one_each waters_fine times_fine held_and_gone came_and_added depth_before square_restorable restorable world_before early_refusals back_refusals back_number taken_back side_drop drops_of square_candidates candidates leaves_for soaked_for soak_by soak_due added_for step_length step_duration square_ground_fine grounds_fine end_fine check_refusals step_number stepped go_on run_from run_to fresh_run is_byte word_at is_digit digits_of value_from well_formed number_from number_at field_at before read_fields line_ended read_rest read_line padded as_fields line_length next_line line_from digits_in decimal field_text fields_text rest_text line_text as_grid grid_line as_run run_line no_cell closed_cell as_open open_cell marked_cell placed_cell cell_line cells_read rows_read table_rows bad_line cells_filled rooms_filled rooms_fine checks_in heading_of judged sheet_of refused_text cell_text cells_text made_text totals_text ended_text run_text sheet_text meadow_text depths_fine shared_refusals quotient_of Speeds.side_speed out_through near_depth through_side all_still arrow_by sighted seen_by asked_fine arrow_early_refusals arrow_refusals arrow_number seen_at Ieee.sub bytes_of
+unfolding pick every all_below first_failing refusal tabulate filled joined placed sum_below water_fine root_from root_of row_gives table_gives rain_by on_square inflow_by row_fine table_fine slot_after slot_before ring_fine record_in beside opposite on_rim shape_fine closed exit mark_fine marks_fine inflow_square_fine inflow_squares_fine drop_off candidate counts side_candidates candidates_of least_from held_between fresh_length is_update length_at duration_for side_fine rate_fine ground_fine rules_fine lesser_positive least_drop greatest_drop drop_sum height_of slope_of critical_speed manning_speed speed_of most_through total_of through_sides nothing_unless weighted_sides weighed run_values_fine run_fine gone sent came off_side off_square off_grid soaked_square soaked_grid leaves_in last_in added_in soaked_in square_record record_of room_slots newest_record remains new_depth depths_fit new_outflow new_soaked late_refusals step_record world_after one_each waters_fine times_fine held_and_gone came_and_added depth_before square_restorable restorable world_before early_refusals back_refusals back_number taken_back side_drop drops_of square_candidates candidates leaves_for soaked_for soak_by soak_due added_for step_length step_duration square_ground_fine grounds_fine end_fine check_refusals step_number stepped go_on run_from run_to fresh_run is_byte word_at is_digit digits_of value_from well_formed number_from number_at field_at before read_fields line_ended read_rest read_line padded as_fields line_length next_line line_from digits_in decimal field_text fields_text rest_text line_text as_grid grid_line as_run run_line closed_cell as_open open_cell marked_cell placed_cell cell_line cells_read rows_read table_rows bad_line cells_filled rooms_filled rooms_fine checks_in heading_of judged sheet_of refused_text cell_text cells_text made_text totals_text ended_text run_text sheet_text meadow_text depths_fine shared_refusals quotient_of Speeds.side_speed out_through near_depth through_side all_still arrow_by sighted seen_by asked_fine arrow_early_refusals arrow_refusals arrow_number seen_at Ieee.sub bytes_of
 printed = refl
 
 text_shape : shape_of (bytes_of whole_sheet) ≡ record { rows = 2; columns = 1 }
-unfolding pick every all_below first_failing refusal tabulate filled joined placed sum_below water_fine root_from root_of row_gives table_gives rain_by on_square inflow_by row_fine table_fine slot_after slot_before ring_fine record_in beside opposite on_rim shape_fine closed exit mark_fine marks_fine inflow_square_fine inflow_squares_fine drop_off candidate counts side_candidates candidates_of least_from held_between fresh_length is_update length_at duration_for side_fine rate_fine ground_fine rules_fine lesser_positive least_drop greatest_drop drop_sum height_of slope_of critical_speed manning_speed speed_of most_through total_of through_sides nothing_unless weighted_sides weighed run_values_fine run_fine gone sent came off_side off_square off_grid soaked_square soaked_grid leaves_in last_in added_in soaked_in square_record record_of room_slots newest_record remains new_depth depths_fit new_outflow new_soaked late_refusals step_record world_after one_each waters_fine times_fine held_and_gone came_and_added depth_before square_restorable restorable world_before early_refusals back_refusals back_number taken_back side_drop drops_of square_candidates candidates leaves_for soaked_for soak_by soak_due added_for step_length step_duration square_ground_fine grounds_fine end_fine check_refusals step_number stepped go_on run_from run_to fresh_run is_byte word_at is_digit digits_of value_from well_formed number_from number_at field_at before read_fields line_ended read_rest read_line padded as_fields line_length next_line line_from digits_in decimal field_text fields_text rest_text line_text as_grid grid_line as_run run_line no_cell closed_cell as_open open_cell marked_cell placed_cell cell_line cells_read rows_read table_rows bad_line cells_filled rooms_filled rooms_fine checks_in heading_of judged sheet_of refused_text cell_text cells_text made_text totals_text ended_text run_text sheet_text meadow_text depths_fine shared_refusals quotient_of Speeds.side_speed out_through near_depth through_side all_still arrow_by sighted seen_by asked_fine arrow_early_refusals arrow_refusals arrow_number seen_at Ieee.sub bytes_of
+unfolding pick every all_below first_failing refusal tabulate filled joined placed sum_below water_fine root_from root_of row_gives table_gives rain_by on_square inflow_by row_fine table_fine slot_after slot_before ring_fine record_in beside opposite on_rim shape_fine closed exit mark_fine marks_fine inflow_square_fine inflow_squares_fine drop_off candidate counts side_candidates candidates_of least_from held_between fresh_length is_update length_at duration_for side_fine rate_fine ground_fine rules_fine lesser_positive least_drop greatest_drop drop_sum height_of slope_of critical_speed manning_speed speed_of most_through total_of through_sides nothing_unless weighted_sides weighed run_values_fine run_fine gone sent came off_side off_square off_grid soaked_square soaked_grid leaves_in last_in added_in soaked_in square_record record_of room_slots newest_record remains new_depth depths_fit new_outflow new_soaked late_refusals step_record world_after one_each waters_fine times_fine held_and_gone came_and_added depth_before square_restorable restorable world_before early_refusals back_refusals back_number taken_back side_drop drops_of square_candidates candidates leaves_for soaked_for soak_by soak_due added_for step_length step_duration square_ground_fine grounds_fine end_fine check_refusals step_number stepped go_on run_from run_to fresh_run is_byte word_at is_digit digits_of value_from well_formed number_from number_at field_at before read_fields line_ended read_rest read_line padded as_fields line_length next_line line_from digits_in decimal field_text fields_text rest_text line_text as_grid grid_line as_run run_line closed_cell as_open open_cell marked_cell placed_cell cell_line cells_read rows_read table_rows bad_line cells_filled rooms_filled rooms_fine checks_in heading_of judged sheet_of refused_text cell_text cells_text made_text totals_text ended_text run_text sheet_text meadow_text depths_fine shared_refusals quotient_of Speeds.side_speed out_through near_depth through_side all_still arrow_by sighted seen_by asked_fine arrow_early_refusals arrow_refusals arrow_number seen_at Ieee.sub bytes_of
 text_shape = refl
 
 text_rules : (line_two (bytes_of whole_sheet)).rules ≡ record { square_side = 3; tolerance = 10; shortest = 300; longest = 700; update = 1_000; edge = 5; edition = 2 }
-unfolding pick every all_below first_failing refusal tabulate filled joined placed sum_below water_fine root_from root_of row_gives table_gives rain_by on_square inflow_by row_fine table_fine slot_after slot_before ring_fine record_in beside opposite on_rim shape_fine closed exit mark_fine marks_fine inflow_square_fine inflow_squares_fine drop_off candidate counts side_candidates candidates_of least_from held_between fresh_length is_update length_at duration_for side_fine rate_fine ground_fine rules_fine lesser_positive least_drop greatest_drop drop_sum height_of slope_of critical_speed manning_speed speed_of most_through total_of through_sides nothing_unless weighted_sides weighed run_values_fine run_fine gone sent came off_side off_square off_grid soaked_square soaked_grid leaves_in last_in added_in soaked_in square_record record_of room_slots newest_record remains new_depth depths_fit new_outflow new_soaked late_refusals step_record world_after one_each waters_fine times_fine held_and_gone came_and_added depth_before square_restorable restorable world_before early_refusals back_refusals back_number taken_back side_drop drops_of square_candidates candidates leaves_for soaked_for soak_by soak_due added_for step_length step_duration square_ground_fine grounds_fine end_fine check_refusals step_number stepped go_on run_from run_to fresh_run is_byte word_at is_digit digits_of value_from well_formed number_from number_at field_at before read_fields line_ended read_rest read_line padded as_fields line_length next_line line_from digits_in decimal field_text fields_text rest_text line_text as_grid grid_line as_run run_line no_cell closed_cell as_open open_cell marked_cell placed_cell cell_line cells_read rows_read table_rows bad_line cells_filled rooms_filled rooms_fine checks_in heading_of judged sheet_of refused_text cell_text cells_text made_text totals_text ended_text run_text sheet_text meadow_text depths_fine shared_refusals quotient_of Speeds.side_speed out_through near_depth through_side all_still arrow_by sighted seen_by asked_fine arrow_early_refusals arrow_refusals arrow_number seen_at Ieee.sub bytes_of
+unfolding pick every all_below first_failing refusal tabulate filled joined placed sum_below water_fine root_from root_of row_gives table_gives rain_by on_square inflow_by row_fine table_fine slot_after slot_before ring_fine record_in beside opposite on_rim shape_fine closed exit mark_fine marks_fine inflow_square_fine inflow_squares_fine drop_off candidate counts side_candidates candidates_of least_from held_between fresh_length is_update length_at duration_for side_fine rate_fine ground_fine rules_fine lesser_positive least_drop greatest_drop drop_sum height_of slope_of critical_speed manning_speed speed_of most_through total_of through_sides nothing_unless weighted_sides weighed run_values_fine run_fine gone sent came off_side off_square off_grid soaked_square soaked_grid leaves_in last_in added_in soaked_in square_record record_of room_slots newest_record remains new_depth depths_fit new_outflow new_soaked late_refusals step_record world_after one_each waters_fine times_fine held_and_gone came_and_added depth_before square_restorable restorable world_before early_refusals back_refusals back_number taken_back side_drop drops_of square_candidates candidates leaves_for soaked_for soak_by soak_due added_for step_length step_duration square_ground_fine grounds_fine end_fine check_refusals step_number stepped go_on run_from run_to fresh_run is_byte word_at is_digit digits_of value_from well_formed number_from number_at field_at before read_fields line_ended read_rest read_line padded as_fields line_length next_line line_from digits_in decimal field_text fields_text rest_text line_text as_grid grid_line as_run run_line closed_cell as_open open_cell marked_cell placed_cell cell_line cells_read rows_read table_rows bad_line cells_filled rooms_filled rooms_fine checks_in heading_of judged sheet_of refused_text cell_text cells_text made_text totals_text ended_text run_text sheet_text meadow_text depths_fine shared_refusals quotient_of Speeds.side_speed out_through near_depth through_side all_still arrow_by sighted seen_by asked_fine arrow_early_refusals arrow_refusals arrow_number seen_at Ieee.sub bytes_of
 text_rules = refl
 
 text_end : (line_two (bytes_of whole_sheet)).end ≡ 2_000
-unfolding pick every all_below first_failing refusal tabulate filled joined placed sum_below water_fine root_from root_of row_gives table_gives rain_by on_square inflow_by row_fine table_fine slot_after slot_before ring_fine record_in beside opposite on_rim shape_fine closed exit mark_fine marks_fine inflow_square_fine inflow_squares_fine drop_off candidate counts side_candidates candidates_of least_from held_between fresh_length is_update length_at duration_for side_fine rate_fine ground_fine rules_fine lesser_positive least_drop greatest_drop drop_sum height_of slope_of critical_speed manning_speed speed_of most_through total_of through_sides nothing_unless weighted_sides weighed run_values_fine run_fine gone sent came off_side off_square off_grid soaked_square soaked_grid leaves_in last_in added_in soaked_in square_record record_of room_slots newest_record remains new_depth depths_fit new_outflow new_soaked late_refusals step_record world_after one_each waters_fine times_fine held_and_gone came_and_added depth_before square_restorable restorable world_before early_refusals back_refusals back_number taken_back side_drop drops_of square_candidates candidates leaves_for soaked_for soak_by soak_due added_for step_length step_duration square_ground_fine grounds_fine end_fine check_refusals step_number stepped go_on run_from run_to fresh_run is_byte word_at is_digit digits_of value_from well_formed number_from number_at field_at before read_fields line_ended read_rest read_line padded as_fields line_length next_line line_from digits_in decimal field_text fields_text rest_text line_text as_grid grid_line as_run run_line no_cell closed_cell as_open open_cell marked_cell placed_cell cell_line cells_read rows_read table_rows bad_line cells_filled rooms_filled rooms_fine checks_in heading_of judged sheet_of refused_text cell_text cells_text made_text totals_text ended_text run_text sheet_text meadow_text depths_fine shared_refusals quotient_of Speeds.side_speed out_through near_depth through_side all_still arrow_by sighted seen_by asked_fine arrow_early_refusals arrow_refusals arrow_number seen_at Ieee.sub bytes_of
+unfolding pick every all_below first_failing refusal tabulate filled joined placed sum_below water_fine root_from root_of row_gives table_gives rain_by on_square inflow_by row_fine table_fine slot_after slot_before ring_fine record_in beside opposite on_rim shape_fine closed exit mark_fine marks_fine inflow_square_fine inflow_squares_fine drop_off candidate counts side_candidates candidates_of least_from held_between fresh_length is_update length_at duration_for side_fine rate_fine ground_fine rules_fine lesser_positive least_drop greatest_drop drop_sum height_of slope_of critical_speed manning_speed speed_of most_through total_of through_sides nothing_unless weighted_sides weighed run_values_fine run_fine gone sent came off_side off_square off_grid soaked_square soaked_grid leaves_in last_in added_in soaked_in square_record record_of room_slots newest_record remains new_depth depths_fit new_outflow new_soaked late_refusals step_record world_after one_each waters_fine times_fine held_and_gone came_and_added depth_before square_restorable restorable world_before early_refusals back_refusals back_number taken_back side_drop drops_of square_candidates candidates leaves_for soaked_for soak_by soak_due added_for step_length step_duration square_ground_fine grounds_fine end_fine check_refusals step_number stepped go_on run_from run_to fresh_run is_byte word_at is_digit digits_of value_from well_formed number_from number_at field_at before read_fields line_ended read_rest read_line padded as_fields line_length next_line line_from digits_in decimal field_text fields_text rest_text line_text as_grid grid_line as_run run_line closed_cell as_open open_cell marked_cell placed_cell cell_line cells_read rows_read table_rows bad_line cells_filled rooms_filled rooms_fine checks_in heading_of judged sheet_of refused_text cell_text cells_text made_text totals_text ended_text run_text sheet_text meadow_text depths_fine shared_refusals quotient_of Speeds.side_speed out_through near_depth through_side all_still arrow_by sighted seen_by asked_fine arrow_early_refusals arrow_refusals arrow_number seen_at Ieee.sub bytes_of
 text_end = refl
 
 text_cells : (said (bytes_of whole_sheet)).cells ≡ cells_rooms (1 ∷ 0 ∷ []) (60 ∷ 0 ∷ []) (100 ∷ 0 ∷ []) (36 ∷ 0 ∷ []) (50 ∷ 0 ∷ [])
-unfolding pick every all_below first_failing refusal tabulate filled joined placed sum_below water_fine root_from root_of row_gives table_gives rain_by on_square inflow_by row_fine table_fine slot_after slot_before ring_fine record_in beside opposite on_rim shape_fine closed exit mark_fine marks_fine inflow_square_fine inflow_squares_fine drop_off candidate counts side_candidates candidates_of least_from held_between fresh_length is_update length_at duration_for side_fine rate_fine ground_fine rules_fine lesser_positive least_drop greatest_drop drop_sum height_of slope_of critical_speed manning_speed speed_of most_through total_of through_sides nothing_unless weighted_sides weighed run_values_fine run_fine gone sent came off_side off_square off_grid soaked_square soaked_grid leaves_in last_in added_in soaked_in square_record record_of room_slots newest_record remains new_depth depths_fit new_outflow new_soaked late_refusals step_record world_after one_each waters_fine times_fine held_and_gone came_and_added depth_before square_restorable restorable world_before early_refusals back_refusals back_number taken_back side_drop drops_of square_candidates candidates leaves_for soaked_for soak_by soak_due added_for step_length step_duration square_ground_fine grounds_fine end_fine check_refusals step_number stepped go_on run_from run_to fresh_run is_byte word_at is_digit digits_of value_from well_formed number_from number_at field_at before read_fields line_ended read_rest read_line padded as_fields line_length next_line line_from digits_in decimal field_text fields_text rest_text line_text as_grid grid_line as_run run_line no_cell closed_cell as_open open_cell marked_cell placed_cell cell_line cells_read rows_read table_rows bad_line cells_filled rooms_filled rooms_fine checks_in heading_of judged sheet_of refused_text cell_text cells_text made_text totals_text ended_text run_text sheet_text meadow_text depths_fine shared_refusals quotient_of Speeds.side_speed out_through near_depth through_side all_still arrow_by sighted seen_by asked_fine arrow_early_refusals arrow_refusals arrow_number seen_at Ieee.sub bytes_of
+unfolding pick every all_below first_failing refusal tabulate filled joined placed sum_below water_fine root_from root_of row_gives table_gives rain_by on_square inflow_by row_fine table_fine slot_after slot_before ring_fine record_in beside opposite on_rim shape_fine closed exit mark_fine marks_fine inflow_square_fine inflow_squares_fine drop_off candidate counts side_candidates candidates_of least_from held_between fresh_length is_update length_at duration_for side_fine rate_fine ground_fine rules_fine lesser_positive least_drop greatest_drop drop_sum height_of slope_of critical_speed manning_speed speed_of most_through total_of through_sides nothing_unless weighted_sides weighed run_values_fine run_fine gone sent came off_side off_square off_grid soaked_square soaked_grid leaves_in last_in added_in soaked_in square_record record_of room_slots newest_record remains new_depth depths_fit new_outflow new_soaked late_refusals step_record world_after one_each waters_fine times_fine held_and_gone came_and_added depth_before square_restorable restorable world_before early_refusals back_refusals back_number taken_back side_drop drops_of square_candidates candidates leaves_for soaked_for soak_by soak_due added_for step_length step_duration square_ground_fine grounds_fine end_fine check_refusals step_number stepped go_on run_from run_to fresh_run is_byte word_at is_digit digits_of value_from well_formed number_from number_at field_at before read_fields line_ended read_rest read_line padded as_fields line_length next_line line_from digits_in decimal field_text fields_text rest_text line_text as_grid grid_line as_run run_line closed_cell as_open open_cell marked_cell placed_cell cell_line cells_read rows_read table_rows bad_line cells_filled rooms_filled rooms_fine checks_in heading_of judged sheet_of refused_text cell_text cells_text made_text totals_text ended_text run_text sheet_text meadow_text depths_fine shared_refusals quotient_of Speeds.side_speed out_through near_depth through_side all_still arrow_by sighted seen_by asked_fine arrow_early_refusals arrow_refusals arrow_number seen_at Ieee.sub bytes_of
 text_cells = refl
 
 text_rain : rain_table (bytes_of whole_sheet) ≡ 51 ∷ 150 ∷ 90 ∷ []
-unfolding pick every all_below first_failing refusal tabulate filled joined placed sum_below water_fine root_from root_of row_gives table_gives rain_by on_square inflow_by row_fine table_fine slot_after slot_before ring_fine record_in beside opposite on_rim shape_fine closed exit mark_fine marks_fine inflow_square_fine inflow_squares_fine drop_off candidate counts side_candidates candidates_of least_from held_between fresh_length is_update length_at duration_for side_fine rate_fine ground_fine rules_fine lesser_positive least_drop greatest_drop drop_sum height_of slope_of critical_speed manning_speed speed_of most_through total_of through_sides nothing_unless weighted_sides weighed run_values_fine run_fine gone sent came off_side off_square off_grid soaked_square soaked_grid leaves_in last_in added_in soaked_in square_record record_of room_slots newest_record remains new_depth depths_fit new_outflow new_soaked late_refusals step_record world_after one_each waters_fine times_fine held_and_gone came_and_added depth_before square_restorable restorable world_before early_refusals back_refusals back_number taken_back side_drop drops_of square_candidates candidates leaves_for soaked_for soak_by soak_due added_for step_length step_duration square_ground_fine grounds_fine end_fine check_refusals step_number stepped go_on run_from run_to fresh_run is_byte word_at is_digit digits_of value_from well_formed number_from number_at field_at before read_fields line_ended read_rest read_line padded as_fields line_length next_line line_from digits_in decimal field_text fields_text rest_text line_text as_grid grid_line as_run run_line no_cell closed_cell as_open open_cell marked_cell placed_cell cell_line cells_read rows_read table_rows bad_line cells_filled rooms_filled rooms_fine checks_in heading_of judged sheet_of refused_text cell_text cells_text made_text totals_text ended_text run_text sheet_text meadow_text depths_fine shared_refusals quotient_of Speeds.side_speed out_through near_depth through_side all_still arrow_by sighted seen_by asked_fine arrow_early_refusals arrow_refusals arrow_number seen_at Ieee.sub bytes_of
+unfolding pick every all_below first_failing refusal tabulate filled joined placed sum_below water_fine root_from root_of row_gives table_gives rain_by on_square inflow_by row_fine table_fine slot_after slot_before ring_fine record_in beside opposite on_rim shape_fine closed exit mark_fine marks_fine inflow_square_fine inflow_squares_fine drop_off candidate counts side_candidates candidates_of least_from held_between fresh_length is_update length_at duration_for side_fine rate_fine ground_fine rules_fine lesser_positive least_drop greatest_drop drop_sum height_of slope_of critical_speed manning_speed speed_of most_through total_of through_sides nothing_unless weighted_sides weighed run_values_fine run_fine gone sent came off_side off_square off_grid soaked_square soaked_grid leaves_in last_in added_in soaked_in square_record record_of room_slots newest_record remains new_depth depths_fit new_outflow new_soaked late_refusals step_record world_after one_each waters_fine times_fine held_and_gone came_and_added depth_before square_restorable restorable world_before early_refusals back_refusals back_number taken_back side_drop drops_of square_candidates candidates leaves_for soaked_for soak_by soak_due added_for step_length step_duration square_ground_fine grounds_fine end_fine check_refusals step_number stepped go_on run_from run_to fresh_run is_byte word_at is_digit digits_of value_from well_formed number_from number_at field_at before read_fields line_ended read_rest read_line padded as_fields line_length next_line line_from digits_in decimal field_text fields_text rest_text line_text as_grid grid_line as_run run_line closed_cell as_open open_cell marked_cell placed_cell cell_line cells_read rows_read table_rows bad_line cells_filled rooms_filled rooms_fine checks_in heading_of judged sheet_of refused_text cell_text cells_text made_text totals_text ended_text run_text sheet_text meadow_text depths_fine shared_refusals quotient_of Speeds.side_speed out_through near_depth through_side all_still arrow_by sighted seen_by asked_fine arrow_early_refusals arrow_refusals arrow_number seen_at Ieee.sub bytes_of
 text_rain = refl
 
 text_inflow : inflow_table (bytes_of whole_sheet) ≡ 0 ∷ 0 ∷ 7 ∷ 101 ∷ 8 ∷ []
-unfolding pick every all_below first_failing refusal tabulate filled joined placed sum_below water_fine root_from root_of row_gives table_gives rain_by on_square inflow_by row_fine table_fine slot_after slot_before ring_fine record_in beside opposite on_rim shape_fine closed exit mark_fine marks_fine inflow_square_fine inflow_squares_fine drop_off candidate counts side_candidates candidates_of least_from held_between fresh_length is_update length_at duration_for side_fine rate_fine ground_fine rules_fine lesser_positive least_drop greatest_drop drop_sum height_of slope_of critical_speed manning_speed speed_of most_through total_of through_sides nothing_unless weighted_sides weighed run_values_fine run_fine gone sent came off_side off_square off_grid soaked_square soaked_grid leaves_in last_in added_in soaked_in square_record record_of room_slots newest_record remains new_depth depths_fit new_outflow new_soaked late_refusals step_record world_after one_each waters_fine times_fine held_and_gone came_and_added depth_before square_restorable restorable world_before early_refusals back_refusals back_number taken_back side_drop drops_of square_candidates candidates leaves_for soaked_for soak_by soak_due added_for step_length step_duration square_ground_fine grounds_fine end_fine check_refusals step_number stepped go_on run_from run_to fresh_run is_byte word_at is_digit digits_of value_from well_formed number_from number_at field_at before read_fields line_ended read_rest read_line padded as_fields line_length next_line line_from digits_in decimal field_text fields_text rest_text line_text as_grid grid_line as_run run_line no_cell closed_cell as_open open_cell marked_cell placed_cell cell_line cells_read rows_read table_rows bad_line cells_filled rooms_filled rooms_fine checks_in heading_of judged sheet_of refused_text cell_text cells_text made_text totals_text ended_text run_text sheet_text meadow_text depths_fine shared_refusals quotient_of Speeds.side_speed out_through near_depth through_side all_still arrow_by sighted seen_by asked_fine arrow_early_refusals arrow_refusals arrow_number seen_at Ieee.sub bytes_of
+unfolding pick every all_below first_failing refusal tabulate filled joined placed sum_below water_fine root_from root_of row_gives table_gives rain_by on_square inflow_by row_fine table_fine slot_after slot_before ring_fine record_in beside opposite on_rim shape_fine closed exit mark_fine marks_fine inflow_square_fine inflow_squares_fine drop_off candidate counts side_candidates candidates_of least_from held_between fresh_length is_update length_at duration_for side_fine rate_fine ground_fine rules_fine lesser_positive least_drop greatest_drop drop_sum height_of slope_of critical_speed manning_speed speed_of most_through total_of through_sides nothing_unless weighted_sides weighed run_values_fine run_fine gone sent came off_side off_square off_grid soaked_square soaked_grid leaves_in last_in added_in soaked_in square_record record_of room_slots newest_record remains new_depth depths_fit new_outflow new_soaked late_refusals step_record world_after one_each waters_fine times_fine held_and_gone came_and_added depth_before square_restorable restorable world_before early_refusals back_refusals back_number taken_back side_drop drops_of square_candidates candidates leaves_for soaked_for soak_by soak_due added_for step_length step_duration square_ground_fine grounds_fine end_fine check_refusals step_number stepped go_on run_from run_to fresh_run is_byte word_at is_digit digits_of value_from well_formed number_from number_at field_at before read_fields line_ended read_rest read_line padded as_fields line_length next_line line_from digits_in decimal field_text fields_text rest_text line_text as_grid grid_line as_run run_line closed_cell as_open open_cell marked_cell placed_cell cell_line cells_read rows_read table_rows bad_line cells_filled rooms_filled rooms_fine checks_in heading_of judged sheet_of refused_text cell_text cells_text made_text totals_text ended_text run_text sheet_text meadow_text depths_fine shared_refusals quotient_of Speeds.side_speed out_through near_depth through_side all_still arrow_by sighted seen_by asked_fine arrow_early_refusals arrow_refusals arrow_number seen_at Ieee.sub bytes_of
 text_inflow = refl
 
 text_printed :
     made_text (plan (record { rows = 1; columns = 3 }) (1 ∷ 0 ∷ 2 ∷ [])) (7 ∷ 8 ∷ 9 ∷ [])
     (record { clock = 4; length = 5; outflow = 1; kept = 6; newest = 10; soaked = 2 }) 3
     ≡ bytes_of printed_world
-unfolding pick every all_below first_failing refusal tabulate filled joined placed sum_below water_fine root_from root_of row_gives table_gives rain_by on_square inflow_by row_fine table_fine slot_after slot_before ring_fine record_in beside opposite on_rim shape_fine closed exit mark_fine marks_fine inflow_square_fine inflow_squares_fine drop_off candidate counts side_candidates candidates_of least_from held_between fresh_length is_update length_at duration_for side_fine rate_fine ground_fine rules_fine lesser_positive least_drop greatest_drop drop_sum height_of slope_of critical_speed manning_speed speed_of most_through total_of through_sides nothing_unless weighted_sides weighed run_values_fine run_fine gone sent came off_side off_square off_grid soaked_square soaked_grid leaves_in last_in added_in soaked_in square_record record_of room_slots newest_record remains new_depth depths_fit new_outflow new_soaked late_refusals step_record world_after one_each waters_fine times_fine held_and_gone came_and_added depth_before square_restorable restorable world_before early_refusals back_refusals back_number taken_back side_drop drops_of square_candidates candidates leaves_for soaked_for soak_by soak_due added_for step_length step_duration square_ground_fine grounds_fine end_fine check_refusals step_number stepped go_on run_from run_to fresh_run is_byte word_at is_digit digits_of value_from well_formed number_from number_at field_at before read_fields line_ended read_rest read_line padded as_fields line_length next_line line_from digits_in decimal field_text fields_text rest_text line_text as_grid grid_line as_run run_line no_cell closed_cell as_open open_cell marked_cell placed_cell cell_line cells_read rows_read table_rows bad_line cells_filled rooms_filled rooms_fine checks_in heading_of judged sheet_of refused_text cell_text cells_text made_text totals_text ended_text run_text sheet_text meadow_text depths_fine shared_refusals quotient_of Speeds.side_speed out_through near_depth through_side all_still arrow_by sighted seen_by asked_fine arrow_early_refusals arrow_refusals arrow_number seen_at Ieee.sub bytes_of
+unfolding pick every all_below first_failing refusal tabulate filled joined placed sum_below water_fine root_from root_of row_gives table_gives rain_by on_square inflow_by row_fine table_fine slot_after slot_before ring_fine record_in beside opposite on_rim shape_fine closed exit mark_fine marks_fine inflow_square_fine inflow_squares_fine drop_off candidate counts side_candidates candidates_of least_from held_between fresh_length is_update length_at duration_for side_fine rate_fine ground_fine rules_fine lesser_positive least_drop greatest_drop drop_sum height_of slope_of critical_speed manning_speed speed_of most_through total_of through_sides nothing_unless weighted_sides weighed run_values_fine run_fine gone sent came off_side off_square off_grid soaked_square soaked_grid leaves_in last_in added_in soaked_in square_record record_of room_slots newest_record remains new_depth depths_fit new_outflow new_soaked late_refusals step_record world_after one_each waters_fine times_fine held_and_gone came_and_added depth_before square_restorable restorable world_before early_refusals back_refusals back_number taken_back side_drop drops_of square_candidates candidates leaves_for soaked_for soak_by soak_due added_for step_length step_duration square_ground_fine grounds_fine end_fine check_refusals step_number stepped go_on run_from run_to fresh_run is_byte word_at is_digit digits_of value_from well_formed number_from number_at field_at before read_fields line_ended read_rest read_line padded as_fields line_length next_line line_from digits_in decimal field_text fields_text rest_text line_text as_grid grid_line as_run run_line closed_cell as_open open_cell marked_cell placed_cell cell_line cells_read rows_read table_rows bad_line cells_filled rooms_filled rooms_fine checks_in heading_of judged sheet_of refused_text cell_text cells_text made_text totals_text ended_text run_text sheet_text meadow_text depths_fine shared_refusals quotient_of Speeds.side_speed out_through near_depth through_side all_still arrow_by sighted seen_by asked_fine arrow_early_refusals arrow_refusals arrow_number seen_at Ieee.sub bytes_of
 text_printed = refl
 
 text_cases : TextCases
 text_cases = record { shape = text_shape; rules = text_rules; end = text_end; cells = text_cells; rain = text_rain; inflow = text_inflow; printed = text_printed }
 
 ditch_cases : DitchCases
-unfolding pick every all_below first_failing refusal tabulate filled joined placed sum_below water_fine root_from root_of row_gives table_gives rain_by on_square inflow_by row_fine table_fine slot_after slot_before ring_fine record_in beside opposite on_rim shape_fine closed exit mark_fine marks_fine inflow_square_fine inflow_squares_fine drop_off candidate counts side_candidates candidates_of least_from held_between fresh_length is_update length_at duration_for side_fine rate_fine ground_fine rules_fine lesser_positive least_drop greatest_drop drop_sum height_of slope_of critical_speed manning_speed speed_of most_through total_of through_sides nothing_unless weighted_sides weighed run_values_fine run_fine gone sent came off_side off_square off_grid soaked_square soaked_grid leaves_in last_in added_in soaked_in square_record record_of room_slots newest_record remains new_depth depths_fit new_outflow new_soaked late_refusals step_record world_after one_each waters_fine times_fine held_and_gone came_and_added depth_before square_restorable restorable world_before early_refusals back_refusals back_number taken_back side_drop drops_of square_candidates candidates leaves_for soaked_for soak_by soak_due added_for step_length step_duration square_ground_fine grounds_fine end_fine check_refusals step_number stepped go_on run_from run_to fresh_run is_byte word_at is_digit digits_of value_from well_formed number_from number_at field_at before read_fields line_ended read_rest read_line padded as_fields line_length next_line line_from digits_in decimal field_text fields_text rest_text line_text as_grid grid_line as_run run_line no_cell closed_cell as_open open_cell marked_cell placed_cell cell_line cells_read rows_read table_rows bad_line cells_filled rooms_filled rooms_fine checks_in heading_of judged sheet_of refused_text cell_text cells_text made_text totals_text ended_text run_text sheet_text meadow_text depths_fine shared_refusals quotient_of Speeds.side_speed out_through near_depth through_side all_still arrow_by sighted seen_by asked_fine arrow_early_refusals arrow_refusals arrow_number seen_at Ieee.sub bytes_of
+unfolding pick every all_below first_failing refusal tabulate filled joined placed sum_below water_fine root_from root_of row_gives table_gives rain_by on_square inflow_by row_fine table_fine slot_after slot_before ring_fine record_in beside opposite on_rim shape_fine closed exit mark_fine marks_fine inflow_square_fine inflow_squares_fine drop_off candidate counts side_candidates candidates_of least_from held_between fresh_length is_update length_at duration_for side_fine rate_fine ground_fine rules_fine lesser_positive least_drop greatest_drop drop_sum height_of slope_of critical_speed manning_speed speed_of most_through total_of through_sides nothing_unless weighted_sides weighed run_values_fine run_fine gone sent came off_side off_square off_grid soaked_square soaked_grid leaves_in last_in added_in soaked_in square_record record_of room_slots newest_record remains new_depth depths_fit new_outflow new_soaked late_refusals step_record world_after one_each waters_fine times_fine held_and_gone came_and_added depth_before square_restorable restorable world_before early_refusals back_refusals back_number taken_back side_drop drops_of square_candidates candidates leaves_for soaked_for soak_by soak_due added_for step_length step_duration square_ground_fine grounds_fine end_fine check_refusals step_number stepped go_on run_from run_to fresh_run is_byte word_at is_digit digits_of value_from well_formed number_from number_at field_at before read_fields line_ended read_rest read_line padded as_fields line_length next_line line_from digits_in decimal field_text fields_text rest_text line_text as_grid grid_line as_run run_line closed_cell as_open open_cell marked_cell placed_cell cell_line cells_read rows_read table_rows bad_line cells_filled rooms_filled rooms_fine checks_in heading_of judged sheet_of refused_text cell_text cells_text made_text totals_text ended_text run_text sheet_text meadow_text depths_fine shared_refusals quotient_of Speeds.side_speed out_through near_depth through_side all_still arrow_by sighted seen_by asked_fine arrow_early_refusals arrow_refusals arrow_number seen_at Ieee.sub bytes_of
 ditch_cases =
     record {
       edge_binds = refl;

@@ -5,7 +5,7 @@ use Rattle.std.specs.Prelude.{◌≡◌, Bool, true, false, List, [], ◌∷◌,
 use Rattle.reckon.specs.Tests.{pick, every}
 use Rattle.checks.specs.Given.{Given}
 use Rattle.hatches.specs.Log.{Evening, most_hatches}
-use Rattle.hatches.specs.declared.lines.Entry.TheVariants.{Hatch, Rate, Back, Unread}
+use Rattle.hatches.specs.declared.lines.Entry.TheVariants.{Hatch, Rate, Back}
 use Rattle.evenings.specs.Program.{Stores, given_held}
 use Rattle.stands.specs.Laying.{stand_of}
 use Rattle.programs.specs.Reading.{sheet_within}
@@ -39,7 +39,6 @@ unfoldable pub deed_of : Order → List Deed
 deed_of (Entered (Hatch n row column)) = naming n row column ∷ []
 deed_of (Entered (Back count)) = going_back count ∷ []
 deed_of (Entered (Rate clock n litres)) = []
-deed_of (Entered Unread) = []
 deed_of (Draw n litres) = drawing n litres ∷ []
 deed_of (Sheet bytes) = []
 deed_of (Lay bytes) = []

@@ -1,7 +1,7 @@
 -- The letter's demand 1, "does nothing undefined": the contract of every entry point leaves one outcome for every input, crate by crate. Of a
 -- layer function its own crate says so.
 -- Assumes nothing.
-use Rattle.std.specs.Prelude.{List, ℕ, Float}
+use Rattle.std.specs.Prelude.{List, ℕ, Float, Option}
 use Rattle.reckon.specs.Outcomes.{One}
 use Rattle.rule.specs.declared.rules.Rules.{Rules}
 use Rattle.ledger.specs.Runs.{Plan, World}
@@ -131,7 +131,7 @@ pub record ListsDetermined : Type 0 where
 
 -- `take_entry` and `take_line` tell the log's own value beside the rooms
 pub record EveningsDetermined : Type 0 where
-  pub take_entry : (p : Plan) (g : Given) (entry : Entry) (e : Evening) →
+  pub take_entry : (p : Plan) (g : Given) (entry : Option Entry) (e : Evening) →
       One {Out = EntryTaken × (List ℕ × (List ℕ × (List ℕ × List ℕ)))}
       (λ o. TakesEntry p g entry e o.0.number (evening o.1.0 o.1.1.0 o.1.1.1.0 o.1.1.1.1 o.0.log))
   pub take_line : (p : Plan) (g : Given) (s : List ℕ) (at line : ℕ) (e : Evening) (old : List ℕ) →

@@ -14,7 +14,7 @@ use Rattle.evenings.specs.Taking.{drawn, entry_number, line_run, line_back, afte
 use Rattle.evenings.specs.Shown.{stands_text}
 use Rattle.evenings.specs.Program.{Stores, stores, hatchlog_text, Begins, GoesOn}
 use Rattle.hatches.specs.declared.lines.Entry.{Entry}
-use Rattle.hatches.specs.declared.lines.Entry.TheVariants.{Hatch, Rate, Back, Unread}
+use Rattle.hatches.specs.declared.lines.Entry.TheVariants.{Hatch, Rate, Back}
 use Rattle.evenings.specs.declared.program.Night.{Night}
 use Rattle.demands.specs.Demand3.{Call, Fresh, alone, AllMade, start, series}
 
@@ -42,7 +42,6 @@ module _ (p : Plan) (g : Given) where
       (replicate {A = List ℕ} (line_run p g e clock).steps m.litres ++ m.standing)
   noted_with e (Back count) m = noted_back (line_back p g e count).steps m
   noted_with e (Hatch n row column) m = m
-  noted_with e Unread m = m
 
   -- any line
   unfoldable pub noted_after : Evening → Entry → Notes → Notes

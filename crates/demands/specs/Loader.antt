@@ -9,7 +9,7 @@ use Rattle.checks.specs.Refusals.{run_checks}
 use Rattle.flood.specs.Run.{run_to}
 use Rattle.text.specs.Reading.{line_from}
 use Rattle.sheet.specs.Lines.{x_letter}
-use Rattle.sheet.specs.Sheet.{Cells, Rooms, Reads, line_one, line_two, shape_of, rooms_fine, bad_line, plan_in, given_in, start_in, said, sheet_of}
+use Rattle.sheet.specs.Sheet.{Cells, Rooms, Reads, has_one, line_one, line_two, shape_of, rooms_fine, bad_line, plan_in, given_in, start_in, said, sheet_of}
 use Rattle.programs.specs.Program.{most_text, program_rooms, meadow_text}
 use Rattle.answer.specs.Printed.{refused_text, made_text}
 use Rattle.sheet.specs.declared.reading.Heading.{Heading}
@@ -29,7 +29,7 @@ end_refusals s =
 -- "For a sheet the order is: line 1 read, shape (1, ..), the other text, then 2 to 5"
 abbrev pub sheet_refusals : List ℕ → Rooms → List Row
 sheet_refusals s lent =
-    12 unless (line_one s).found
+    12 unless has_one s
     ∷ 1 unless rooms_fine (shape_of s) (line_one s).side lent
     ∷ 12 unless eqb (bad_line s) 0
     ∷ rows_between 2 5 (end_refusals s)
@@ -37,8 +37,8 @@ sheet_refusals s lent =
 -- the number of a sheet, and its line: "12 with its number from 1", else 0
 pub record SheetSays (s : List ℕ) (lent : Rooms) (number line : ℕ) : Type 0 where
   pub number_is : TableSays (sheet_refusals s lent) number
-  pub first_line : (line_one s).found ≡ false → line ≡ 1
-  pub other_line : (line_one s).found ≡ true → number ≡ 12 → line ≡ bad_line s
+  pub first_line : has_one s ≡ false → line ≡ 1
+  pub other_line : has_one s ≡ true → number ≡ 12 → line ≡ bad_line s
   pub no_line : (number ≡ 12 → ⊥) → line ≡ 0
 
 -- what `meadow` prints: "more: 12, line 0"; "A refusal prints only `refused`, number, line (0 unless 12)"; else what the run left

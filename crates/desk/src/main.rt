@@ -23,29 +23,12 @@ const NEWLINE: u8 = 10;
 // A line `step` takes at most 64 calls for its steps, and one for its end.
 const MOST_CALLS: u32 = 65;
 
-// A byte of the input, or none.
-#[derive(Clone, Copy)]
-struct Byte {
-    came: bool,
-    byte: u8,
-}
-
-// Where an evening has come to: whether more lines can follow, and the desk.
-#[derive(Clone, Copy)]
-struct Turn {
-    more: bool,
-    desk: Desk,
-}
-
-fn next_byte(input: &mut impl Read) -> Byte {
+// A byte of the input, none at its end.
+fn next_byte(input: &mut impl Read) -> Option<u8> {
     let mut one = [0u8; 1];
-    let came = match input.read(&mut one) {
-        Err(_) => false,
-        Ok(got) => got > 0,
-    };
-    Byte {
-        came: came,
-        byte: one[0],
+    match input.read(&mut one) {
+        Ok(got) if got > 0 => Some(one[0]),
+        _ => None,
     }
 }
 
@@ -59,27 +42,24 @@ fn keep(line: &mut [u8], length: usize, byte: u8) -> usize {
 }
 
 // A line with its newline, none at the end of the input; of one that is too long its first bytes, which have none. A proved loop has to end: it
-// counts down from a number that no evening uses up.
+// makes at most as many turns as no evening uses up.
 fn read_line(input: &mut impl Read, line: &mut [u8]) -> usize {
     let mut length: usize = 0;
-    let mut turns = u64::MAX;
-    while turns > 0 {
-        let next = next_byte(input);
-        if !next.came {
+    for _ in 0..u64::MAX {
+        let Some(byte) = next_byte(input) else {
+            return length;
+        };
+        length = keep(line, length, byte);
+        if byte == NEWLINE {
             return length;
         }
-        length = keep(line, length, next.byte);
-        if next.byte == NEWLINE {
-            return length;
-        }
-        turns -= 1;
     }
     length
 }
 
 // How many bytes of text a line asks for.
 fn wanted_after(line: &[u8], length: usize) -> usize {
-    let end = least(length, line.len());
+    let end = length.min(line.len());
     wanted(&line[..end])
 }
 
@@ -90,15 +70,6 @@ fn read_text(input: &mut impl Read, text: &mut [u8], wants: usize) -> usize {
     }
     let came = read_all(input, &mut text[..wants]);
     came.length
-}
-
-fn least(a: usize, b: usize) -> usize
-    ensures { result ≤ b }
-{
-    if a < b {
-        return a;
-    }
-    b
 }
 
 // The room of records, of which a proof needs only the length.
@@ -138,8 +109,7 @@ fn further_steps(
     let mut senders = [0u64; DESK_ALONG];
     let mut room = [0u32; DESK_SQUARES];
     let mut desk = begun;
-    let mut calls: u32 = 1;
-    while calls < MOST_CALLS {
+    for _ in 1..MOST_CALLS {
         let series = desk.series;
         if !series.on {
             return desk;
@@ -163,7 +133,6 @@ fn further_steps(
             &mut room,
         );
         tell(rt, out, desk.length);
-        calls += 1;
     }
     desk
 }
@@ -216,8 +185,8 @@ fn answer(
     began: &mut [u32; DESK_RATES],
     out: &mut [u8; DESK_OUT],
 ) -> Desk {
-    let line_end = least(length, line.len());
-    let text_end = least(got, text.len());
+    let line_end = length.min(line.len());
+    let text_end = got.min(text.len());
     command(
         desk,
         &line[..line_end],
@@ -236,7 +205,7 @@ fn answer(
     )
 }
 
-// A line, the text after it, and all that they ask for.
+// A line, the text after it, and all that they ask for: the desk then, none where no line can follow.
 fn take_line(
     rt: &impl Print,
     input: &mut impl Read,
@@ -253,14 +222,11 @@ fn take_line(
     records: &mut [u32; DESK_NUMBERS],
     began: &mut [u32; DESK_RATES],
     out: &mut [u8; DESK_OUT],
-) -> Turn {
+) -> Option<Desk> {
     let mut line = [0u8; MOST_LINE];
     let length = read_line(input, &mut line);
     if length == 0 {
-        return Turn {
-            more: false,
-            desk: desk,
-        };
+        return None;
     }
     let wants = wanted_after(&line, length);
     let got = read_text(input, text, wants);
@@ -272,10 +238,10 @@ fn take_line(
     let stepped = make_steps(
         rt, after, marks, beds, roughness, rates, rain, inflow, depths, lasts, records, began, out,
     );
-    Turn {
-        more: got == wants,
-        desk: stepped,
+    if got != wants {
+        return None;
     }
+    Some(stepped)
 }
 
 // The lines of an evening, each answered before the next is read.
@@ -294,9 +260,8 @@ fn evening(rt: &(impl Input + Print)) {
     let mut began = [0u32; DESK_RATES];
     let mut out = [0u8; DESK_OUT];
     let mut desk = empty_desk();
-    let mut turns = u64::MAX;
-    while turns > 0 {
-        let turn = take_line(
+    for _ in 0..u64::MAX {
+        let Some(after) = take_line(
             rt,
             &mut input,
             desk,
@@ -312,12 +277,10 @@ fn evening(rt: &(impl Input + Print)) {
             &mut records,
             &mut began,
             &mut out,
-        );
-        desk = turn.desk;
-        if !turn.more {
+        ) else {
             return;
-        }
-        turns -= 1;
+        };
+        desk = after;
     }
 }
 

@@ -4,6 +4,7 @@ use mathlib.Core.Path.{◌≡◌, refl, sym, ap, ◌∙◌}
 use mathlib.Core.Bool.{true, false}
 use mathlib.Core.List.{List}
 use Prim.Native.Nat.{ℕ}
+use Rattle.std.proofs.Common.{Option, Some, None, is_some}
 use lib.ListN.{length}
 use borrow.Author.Tests.{eq-eqb, ne_eqb}
 use Rattle.reckon.specs.Tests.{pick}
@@ -14,43 +15,61 @@ use Rattle.text.specs.declared.reading.Fields.{Fields}
 use Rattle.desks.specs.Orders.{to_the_end, read_whole, order_from}
 use Rattle.desks.specs.declared.orders.Order.{Order}
 
+abbrev next_or : Option Fields → ℕ
+next_or (Some f) = f.next
+next_or None = 0
+
 -- ---- a line that is the whole text
 
-module _ (s word : List ℕ) (count : ℕ) {line : Fields} (e : line ≡ as_fields 0 (read_line s 0 word count)) where
-  -- it comes to the end
-  pub whole_read : line.next ≡ length s → line ≡ as_fields 0 (read_whole s word count)
-  unfolding read_whole as_fields pick
-  whole_read n = go (read_line s 0 word count) e
+module _ (s word : List ℕ) (count : ℕ) where
+  pub no_line : None ≡ as_fields (read_line s 0 word count) → None ≡ as_fields (read_whole s word count)
+  unfolding read_whole as_fields
+  no_line e = go (read_line s 0 word count) e
     where
-      go : (r : Reading) → line ≡ as_fields 0 r → line ≡ as_fields 0 (to_the_end (length s) r)
-      go (read vs q) x = x ∙ ap (as_fields 0) (sym (pick_true _ _ (eq-eqb q (length s) (sym (ap (λ (f : Fields). f.next) x) ∙ n))))
-      go unread x = x
-
-  -- or it does not, and nothing is read
-  pub not_whole : (line.next ≡ length s → ⊥) → as_fields 0 unread ≡ as_fields 0 (read_whole s word count)
-  unfolding read_whole as_fields pick
-  not_whole n = go (read_line s 0 word count) e
-    where
-      go : (r : Reading) → line ≡ as_fields 0 r → as_fields 0 unread ≡ as_fields 0 (to_the_end (length s) r)
-      go (read vs q) x = ap (as_fields 0) (sym (pick_false _ _ (ne_eqb q (length s) (λ z. n (ap (λ (f : Fields). f.next) x ∙ z)))))
+      go : (r : Reading) → None ≡ as_fields r → None ≡ as_fields (to_the_end (length s) r)
+      go (read vs q) x = not_both refl (ap is_some (sym x))
       go unread x = refl
+
+  module _ {line : Fields} (e : Some line ≡ as_fields (read_line s 0 word count)) where
+    -- it comes to the end
+    pub whole_read : line.next ≡ length s → Some line ≡ as_fields (read_whole s word count)
+    unfolding read_whole as_fields pick
+    whole_read n = go (read_line s 0 word count) e
+      where
+        go : (r : Reading) → Some line ≡ as_fields r → Some line ≡ as_fields (to_the_end (length s) r)
+        go (read vs q) x =
+            let z : line.next ≡ q = ap next_or x in
+            x ∙ ap as_fields (sym (pick_true _ _ (eq-eqb q (length s) (sym z ∙ n))))
+        go unread x = x
+
+    -- or it does not, and nothing is read
+    pub not_whole : (line.next ≡ length s → ⊥) → None ≡ as_fields (read_whole s word count)
+    unfolding read_whole as_fields pick
+    not_whole n = go (read_line s 0 word count) e
+      where
+        go : (r : Reading) → Some line ≡ as_fields r → None ≡ as_fields (to_the_end (length s) r)
+        go (read vs q) x =
+            let z : line.next ≡ q = ap next_or x in
+            ap as_fields (sym (pick_false _ _ (ne_eqb q (length s) (λ y. n (z ∙ y)))))
+        go unread x = refl
 
 -- ---- a reading as it is handed back: the first three fields, and none past them
 
-module _ (r : Reading) {f : Fields} (e : f ≡ as_fields 0 r) where
-  -- an order made of the fields is that made of the reading's
-  pub asked : (make : List ℕ → Order) (other : Order) → ((vs : List ℕ) → make (padded vs) ≡ make vs) → f.found ≡ true → make f.values ≡ order_from r make other
-  unfolding as_fields
-  asked make other same t = go r e
-    where
-      go : (r : Reading) → f ≡ as_fields 0 r → make f.values ≡ order_from r make other
-      go (read vs q) x = ap (λ (z : Fields). make z.values) x ∙ same vs
-      go unread x = not_both t (ap (λ (z : Fields). z.found) x)
+-- an order made of the fields is that made of the reading's
+pub asked : (r : Reading) {f : Fields} → Some f ≡ as_fields r → (make : List ℕ → Order) (other : Order) →
+    ((vs : List ℕ) → make (padded vs) ≡ make vs) → make f.values ≡ order_from r make other
+unfolding as_fields
+asked (read vs q) {f} x make other same = let z : f ≡ record { values = padded vs; next = q } = cc in ap (λ (g : Fields). make g.values) z ∙ same vs
+asked unread x make other same = not_both refl (ap is_some x)
 
-  pub not_asked : (make : List ℕ → Order) (other : Order) → f.found ≡ false → other ≡ order_from r make other
-  unfolding as_fields
-  not_asked make other t = go r e
-    where
-      go : (r : Reading) → f ≡ as_fields 0 r → other ≡ order_from r make other
-      go (read vs q) x = not_both (ap (λ (z : Fields). z.found) x) t
-      go unread x = refl
+-- one that has no fields
+pub asked_plain : (r : Reading) {o : Option Fields} → o ≡ as_fields r → is_some o ≡ true → (order other : Order) → order ≡ order_from r (λ vs. order) other
+unfolding as_fields
+asked_plain (read vs q) x t order other = refl
+asked_plain unread x t order other = not_both t (ap is_some x)
+
+pub not_asked : (r : Reading) {o : Option Fields} → o ≡ as_fields r → is_some o ≡ false → (make : List ℕ → Order) (other : Order) →
+    other ≡ order_from r make other
+unfolding as_fields
+not_asked (read vs q) x t make other = not_both (ap is_some x) t
+not_asked unread x t make other = refl

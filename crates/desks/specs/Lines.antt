@@ -15,7 +15,7 @@ use Rattle.text.specs.Writing.{Wrote}
 use Rattle.answer.specs.Printed.{refused_text}
 use Rattle.hatches.specs.Log.{Evening, evening}
 use Rattle.hatches.specs.declared.lines.Entry.{Entry}
-use Rattle.hatches.specs.declared.lines.Entry.TheVariants.{Hatch, Rate, Back, Unread}
+use Rattle.hatches.specs.declared.lines.Entry.TheVariants.{Hatch, Rate, Back}
 use Rattle.hatches.specs.declared.log.Log.{Log}
 use Rattle.frames.specs.Frame.{frame_text}
 use Rattle.frames.specs.Arrows.{arrows_text}
@@ -156,7 +156,6 @@ module _ (p : Plan) (e : Evening) (a : Account) where
   entry_told r inflow (Hatch n row column) = plainly (came_of e (name_tried p r inflow e.log a n row column))
   entry_told r inflow (Back count) = back_told count
   entry_told r inflow (Rate clock n litres) = refused_at 12 0
-  entry_told r inflow Unread = refused_at 12 0
 
   -- any line but `sheet`, with the text that came after it
   unfoldable pub order_told : Rules → List ℕ → List ℕ → Order → Told

@@ -493,7 +493,6 @@ fn entry_line(
         ),
         Entry::Back(count) => back_line(desk, count, marks, depths, lasts, records, began, out),
         Entry::Rate(clock, number, litres) => refuse_line(desk, 12, 0, out),
-        Entry::Unread => refuse_line(desk, 12, 0, out),
     }
 }
 

@@ -24,40 +24,32 @@ pub enum Order {
 }
 
 // The fields of a line of a kind, where it is the whole text.
-fn whole_line(text: &[u8], word: &[u8], count: usize) -> Fields
+fn whole_line(text: &[u8], word: &[u8], count: usize) -> Option<Fields>
     requires { count ≤ most_fields }
-    ensures { result ≡ as_fields 0 (read_whole text.now word.now count) }
+    ensures { result ≡ as_fields (read_whole text.now word.now count) }
 {
-    let line = line_of(text, 0, word, count);
-    if line.next == text.len() {
-        return line;
+    let line = line_of(text, 0, word, count)?;
+    if line.next != text.len() {
+        return None;
     }
-    Fields {
-        found: false,
-        values: [0; 8],
-        next: 0,
-    }
+    Some(line)
 }
 
 // A line that looks at what stands.
 fn look_order(text: &[u8]) -> Order
     ensures { result ≡ look_order text.now }
 {
-    let show = whole_line(text, b"show", 0);
-    if show.found {
+    if whole_line(text, b"show", 0).is_some() {
         return Order::Show;
     }
-    let arrows = whole_line(text, b"arrows", 0);
-    if arrows.found {
+    if whole_line(text, b"arrows", 0).is_some() {
         return Order::Arrows;
     }
-    let most = whole_line(text, b"most", 1);
-    if most.found {
+    if let Some(most) = whole_line(text, b"most", 1) {
         let values = most.values;
         return Order::Most(values[0]);
     }
-    let stand = whole_line(text, b"stand", 0);
-    if stand.found {
+    if whole_line(text, b"stand", 0).is_some() {
         return Order::Stand;
     }
     Order::NoOrder
@@ -67,23 +59,19 @@ fn look_order(text: &[u8]) -> Order
 fn try_order(text: &[u8]) -> Order
     ensures { result ≡ try_order text.now }
 {
-    let hatch = whole_line(text, b"hatch", 3);
-    if hatch.found {
+    if let Some(hatch) = whole_line(text, b"hatch", 3) {
         let values = hatch.values;
         return Order::Entered(Entry::Hatch(values[0], values[1], values[2]));
     }
-    let draw = whole_line(text, b"draw", 2);
-    if draw.found {
+    if let Some(draw) = whole_line(text, b"draw", 2) {
         let values = draw.values;
         return Order::Draw(values[0], values[1]);
     }
-    let step = whole_line(text, b"step", 3);
-    if step.found {
+    if let Some(step) = whole_line(text, b"step", 3) {
         let values = step.values;
         return Order::Step(values[0], values[1], values[2]);
     }
-    let back = whole_line(text, b"back", 1);
-    if back.found {
+    if let Some(back) = whole_line(text, b"back", 1) {
         let values = back.values;
         return Order::Entered(Entry::Back(values[0]));
     }
@@ -94,13 +82,11 @@ fn try_order(text: &[u8]) -> Order
 pub fn order_of(text: &[u8]) -> Order
     ensures { OrderRead text.now result }
 {
-    let sheet = whole_line(text, b"sheet", 1);
-    if sheet.found {
+    if let Some(sheet) = whole_line(text, b"sheet", 1) {
         let values = sheet.values;
         return Order::Sheet(values[0]);
     }
-    let lay = whole_line(text, b"lay", 1);
-    if lay.found {
+    if let Some(lay) = whole_line(text, b"lay", 1) {
         let values = lay.values;
         return Order::Lay(values[0]);
     }

@@ -2,21 +2,25 @@
 -- one board more.
 -- Assumes nothing.
 use mathlib.Core.Path.{◌≡◌, refl, sym, ap, ◌∙◌}
-use mathlib.Core.Bool.{Bool, true, false, not}
+use mathlib.Core.Bool.{Bool, true, false, not, ◌&&◌}
 use mathlib.Core.List.{List}
-use Prim.Native.Nat.{ℕ, ◌+◌, ◌≤◌, ◌<◌}
+use Prim.Native.Nat.{ℕ, zero, suc, ◌+◌, ◌≤◌, ◌<◌}
+use native.Mathlib.Numerals.{add-one}
+use native.Mathlib.Omega.{arith}
 use lib.Dec.{leb}
-use lib.ListN.{get_or, set, take}
-use lib.Seq.{get_or-take}
-use borrow.Author.Tests.{lt-ltb, le-ltb}
-use Rattle.reckon.specs.Tests.{pick, every}
+use lib.ListN.{length, get_or, set, take}
+use lib.Seq.{take-length, length-take-le}
+use borrow.Author.Tests.{lt-ltb, le-ltb, le-leb}
+use Rattle.std.specs.List.{list_all}
+use Rattle.std.proofs.lemmas.List.Folds.{list_all_more}
+use Rattle.reckon.specs.Tests.{pick, every, all_below}
 use Rattle.reckon.specs.Ranges.{most_depth}
 use Rattle.reckon.proofs.TestLaws.{pick_true, pick_false, every_fails, and_true}
 use Rattle.grid.specs.Squares.{square_at}
 use Rattle.grid.specs.Marks.{closed}
 use Rattle.grid.specs.declared.squares.Shape.{Shape}
 use Rattle.ledger.specs.Runs.{Plan}
-use Rattle.display.specs.Boards.{most_boards, no_board, square_of, with_board, board_fine}
+use Rattle.display.specs.Boards.{most_boards, no_board, square_of, with_board, board_fine, boards_fine, listed}
 use Rattle.display.specs.Inner.Refreshed.{cleared, seen_at, looked_at}
 use Rattle.display.specs.declared.boards.Board.{Board}
 use Rattle.display.specs.declared.boards.Boards.{Boards}
@@ -65,10 +69,26 @@ module _ (p : Plan) (b : Board) where
     board_marked k l t =
         simp (lt-ltb _ _ k, lt-ltb _ _ l, ap (closed p.marks) (sym s) ∙ (sym e ∙ t), and_true (leb b.mark most_depth))
 
--- of the counted ones
-pub counted-fine :
-    (p : Plan) (n : ℕ) (l : List Board) (k : ℕ) {b : Bool} → k < n → board_fine p (get_or l k no_board) ≡ b → board_fine p (get_or (take n l) k no_board) ≡ b
-counted-fine p n l k h e = ap (board_fine p) (get_or-take n l k no_board h) ∙ e
+-- ---- refusal 13 of the counted ones
+
+-- the first i of a list by a test of each number below i
+first_below : {A : Type 0} (f : A → Bool) (l : List A) (d : A) (i : ℕ) → i ≤ length l → list_all f (take i l) ≡ all_below i (λ k. f (get_or l k d))
+unfolding all_below
+first_below f l d zero h = refl
+first_below f l d (suc i) h =
+    ap (λ (n : ℕ). list_all f (take n l)) (sym (add-one i))
+    ∙ (list_all_more f l i d (omega (arith, h)) ∙ ap (λ (b : Bool). b && f (get_or l i d)) (first_below f l d i (omega (arith, h))))
+
+pub counted_fine :
+    (p : Plan) (bs : Boards) → bs.count ≤ most_boards → bs.count ≤ length bs.list →
+    list_all (board_fine p) (listed bs) ≡ boards_fine p bs.count (listed bs)
+unfolding boards_fine every
+counted_fine p bs few there =
+    let long : length (listed bs) ≡ bs.count = length-take-le bs.count bs.list there in
+    let whole : take bs.count (listed bs) ≡ listed bs = rw long at (take-length (listed bs)) in
+    let each : list_all (board_fine p) (take bs.count (listed bs)) ≡ all_below bs.count (λ k. board_fine p (get_or (listed bs) k no_board)) =
+    first_below (board_fine p) (listed bs) no_board bs.count (omega (arith, long)) in
+    ap (list_all (board_fine p)) (sym whole) ∙ (each ∙ sym (simp (le-leb _ _ few, and_true)))
 
 -- ---- one board more
 

@@ -1,10 +1,11 @@
 -- Laws of the first boards of a list by a rule: one board more, twice, what is kept, and the two parts of the list.
 -- Assumes nothing.
 use mathlib.Core.Path.{◌≡◌, refl, sym, ap, ap₂, subst, ◌∙◌}
-use mathlib.Core.List.{List, [], ◌∷◌, map}
+use mathlib.Core.List.{List, [], ◌∷◌, ◌++◌, map}
 use Prim.Native.Nat.{ℕ, zero, suc, ◌+◌, ◌<◌}
 use native.Mathlib.Numerals.{add-one}
-use lib.ListN.{get_or, set, take, drop}
+use lib.ListN.{get_or, set, take, drop, length}
+use lib.Seq.{get_or-take}
 use Rattle.grid.specs.Squares.{OnGrid}
 use Rattle.grid.specs.declared.squares.Shape.{Shape}
 use Rattle.display.specs.Boards.{no_board}
@@ -72,18 +73,31 @@ first-twice f g h e zero l = refl
 first-twice f g h e (suc n) [] = refl
 first-twice f g h e (suc n) (b ∷ l) = ap₂ (λ (x : Board) (r : List Board). x ∷ r) (e b) (first-twice f g h e n l)
 
+-- a whole list
+first_whole : (f : Board → Board) (l : List Board) → first_mapped f (length l) l ≡ map f l
+unfolding first_mapped
+first_whole f [] = refl
+first_whole f (b ∷ l) = ap (λ (r : List Board). f b ∷ r) (first_whole f l)
+
 -- ---- a pass over counted boards, board by board
 
-module _ (f : Board → Board) (bs : Boards) (k : ℕ) {l : List Board} (e : l ≡ first_mapped f k bs.list) where
-  next_is : get_or l k no_board ≡ get_or bs.list k no_board
-  next_is = ap (λ (x : List Board). get_or x k no_board) e ∙ first_ahead f k bs.list no_board
+module _ (f : Board → Board) (bs : Boards) (k : ℕ) {l : List Board} (e : l ≡ first_mapped f k (take bs.count bs.list)) where
+  next_is : get_or l k no_board ≡ get_or (take bs.count bs.list) k no_board
+  next_is = ap (λ (x : List Board). get_or x k no_board) e ∙ first_ahead f k (take bs.count bs.list) no_board
 
   -- the next board stands where it stood
   pub next_on : {s : Shape} → BoardsOn s bs → k < bs.count → OnGrid s (get_or l k no_board).row (get_or l k no_board).column
-  next_on {s} on h = subst (λ (b : Board). OnGrid s b.row b.column) (sym next_is) (on.each k h)
+  next_on {s} on h =
+      subst (λ (b : Board). OnGrid s b.row b.column) (sym (next_is ∙ get_or-take bs.count bs.list k no_board h)) (on.each k h)
 
-  pub pass_more : {r : Board} → r ≡ f (get_or l k no_board) → set l k r ≡ first_mapped f (k + 1) bs.list
-  pass_more r = ap₂ (λ (x : List Board) (b : Board). set x k b) e (r ∙ ap f next_is) ∙ first_more f k bs.list no_board
+  pub pass_more : {r : Board} → r ≡ f (get_or l k no_board) → set l k r ≡ first_mapped f (k + 1) (take bs.count bs.list)
+  pass_more r =
+      ap₂ (λ (x : List Board) (b : Board). set x k b) e (r ∙ ap f next_is) ∙ first_more f k (take bs.count bs.list) no_board
 
-  pub pass_whole : k ≡ bs.count → ◌≡◌ {A = Boards} (record { count = bs.count; list = l }) (counted f bs)
-  pass_whole h = ap {B = Boards} (λ (x : List Board). record { count = bs.count; list = x }) (e ∙ ap (λ (n : ℕ). first_mapped f n bs.list) h)
+  pub pass_whole :
+      k ≡ length (take bs.count bs.list) →
+      ◌≡◌ {A = Boards} (record { count = bs.count; list = l ++ drop bs.count bs.list }) (counted f bs)
+  unfolding first_mapped
+  pass_whole h =
+      ap {B = Boards} (λ (x : List Board). record { count = bs.count; list = x ++ drop bs.count bs.list })
+      (e ∙ (ap (λ (n : ℕ). first_mapped f n (take bs.count bs.list)) h ∙ first_whole f (take bs.count bs.list)))

@@ -20,7 +20,6 @@ use Rattle.ledger.specs.Runs.{Plan, World}
 use Rattle.checks.specs.Given.{Given}
 use Rattle.checks.specs.Refusals.{check_refusals, run_checks}
 use Rattle.flood.specs.Run.{go_on, run_to}
-use Rattle.flood.specs.declared.run.Ran.{Ran}
 use Rattle.display.specs.Boards.{most_boards, no_board, no_boards, with_board, listed, boards_fine}
 use Rattle.display.specs.Watch.{watch_number, watched_to, boards_after, Watches, WatchesHeld}
 use Rattle.display.specs.Inner.Lent.{held_of, board_at, back_from, back_in}
@@ -331,11 +330,9 @@ module _ (p : Plan) (g : Given) (end : ℕ) (w : World) where
         go (no h) = few (omega (arith, h))
 
   pub watched_back :
-      (boards : List Board) {held : Boards} {a : Shown} {back : Boards} {ran : Ran} {depths lasts records : List ℕ} {after : List Board} →
-      held ≡ held_of boards → WatchesHeld p g end w held a depths lasts records → back ≡ a.boards → after ≡ back_in back boards → ran ≡ a.ran →
-      Watches p g end w (length boards) boards ran depths lasts records after
-  watched_back boards {held} {a} {back} {ran} {depths} {lasts} {records} {after} e f b t s =
+      (boards : List Board) {held : Boards} {a : Shown} {depths lasts records : List ℕ} {after : List Board} →
+      held ≡ held_of boards → WatchesHeld p g end w held a depths lasts records → after ≡ back_in a.boards boards →
+      Watches p g end w (length boards) boards a.ran depths lasts records after
+  watched_back boards {held} {a} {depths} {lasts} {records} {after} e f t =
       let whole = by_value boards (subst (λ (h : Boards). WatchesHeld p g end w h a depths lasts records) e f) in
-      let put : back_in a.boards boards ≡ after = sym (t ∙ ap (λ (h : Boards). back_in h boards) b) in
-      subst (λ (l : List Board). Watches p g end w (length boards) boards ran depths lasts records l) put
-      (subst (λ (r : Ran). Watches p g end w (length boards) boards r depths lasts records (back_in a.boards boards)) (sym s) whole)
+      subst (λ (l : List Board). Watches p g end w (length boards) boards a.ran depths lasts records l) (sym t) whole

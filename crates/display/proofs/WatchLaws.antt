@@ -3,7 +3,7 @@
 use mathlib.Core.Path.{◌≡◌, refl, sym, ap, subst, ◌∙◌}
 use mathlib.Core.Bool.{Bool, true, false}
 use mathlib.Core.List.{List, [], ◌∷◌, map}
-use Prim.Native.Nat.{ℕ, suc, ◌+◌, ◌<◌}
+use Prim.Native.Nat.{ℕ, zero, suc, ◌+◌, ◌<◌}
 use native.Mathlib.Numerals.{add-one}
 use native.Mathlib.Omega.{arith}
 use lib.Dec.{T}
@@ -12,18 +12,19 @@ use lib.Seq.{get_or-take}
 use borrow.Author.Tests.{eq-eqb, ne_eqb, leb-true, ltb-true}
 use Rattle.reckon.specs.Tests.{refusal, ◌unless◌}
 use Rattle.reckon.specs.Inner.Rows.{numbered}
-use Rattle.reckon.proofs.TestLaws.{pick_true, pick_false, every_each, all_at, refusal_here, refusal_later, refusal-first, refusal-second}
+use Rattle.reckon.proofs.TestLaws.{pick_true, pick_false, pick_both, every_each, all_at, refusal_here, refusal_later, refusal-first, refusal-second}
 use Rattle.grid.specs.Squares.{ShapeInRange}
-use Rattle.ledger.specs.Runs.{Plan, World, world}
-use Rattle.ledger.specs.declared.runs.Run.{Run}
+use Rattle.grid.specs.declared.squares.Shape.{Shape}
+use Rattle.ledger.specs.Runs.{Plan, World}
 use Rattle.checks.specs.Given.{Given}
 use Rattle.checks.specs.Refusals.{run_checks, check_refusals}
 use Rattle.flood.specs.Step.{stepped}
-use Rattle.flood.specs.Run.{Ended, ended, go_on, run_to, steps_on}
-use Rattle.flood.proofs.RunToLaws.{whole, stops, run_passed}
+use Rattle.flood.specs.Run.{Ended, go_on, run_to, steps_on}
+use Rattle.flood.specs.Inner.Run.{KeptOver}
+use Rattle.flood.proofs.RunToLaws.{stops, run_passed}
 use Rattle.display.specs.Boards.{no_board, listed, board_fine, boards_fine, shown}
 use Rattle.display.specs.Watch.{watch_number, watched_to, boards_after, WatchesHeld}
-use Rattle.display.specs.Inner.Refreshed.{counted, refreshed, BoardsOn, shown_with, WatchesOn}
+use Rattle.display.specs.Inner.Refreshed.{counted, looked_at, refreshed, seen_after, BoardsOn, shown_with, WatchesOn}
 use Rattle.display.specs.declared.boards.Board.{Board}
 use Rattle.display.specs.declared.boards.Boards.{Boards}
 use Rattle.display.specs.declared.boards.Shown.{Shown}
@@ -60,26 +61,35 @@ module _ (p : Plan) (g : Given) (w : World) (before : Boards) where
             ∙ same_boards refl (first-twice _ _ _ (λ b. looked_next p g w b steps after on) before.count before.list));
       })
 
-  -- the boards stay where they are
-  module _ {now : World} {steps : ℕ} {boards : Boards} (r : Watching now steps boards) (on : BoardsOn p.shape before) where
-    kept : (what : Board → ℕ) → ((b : Board) → what (shown p g w b steps) ≡ what b) → (k : ℕ) →
-        what (get_or (showing steps).list k no_board) ≡ what (get_or before.list k no_board)
-    kept what h k = first_keeps (λ (b : Board). shown p g w b steps) what h before.count before.list k no_board
+-- seen after each step of a run
+module _ (p : Plan) (g : Given) (w : World) where
+  pub watching_all :
+      (n : ℕ) {bs bs' : Boards} → Watching p g w bs w 0 bs → KeptOver seen_after p g w n bs bs' → Watching p g w bs (steps_on p g n w) n bs'
+  unfolding KeptOver steps_on
+  watching_all zero {bs} f r = subst (Watching p g w bs w 0) (sym r) f
+  watching_all (suc n) {bs} f r = rw (sym (add-one n)) (watching_on p g w bs (watching_all n f r.1) refl r.2.kept)
 
-    pub still_on : BoardsOn p.shape boards
-    unfolding shown
-    still_on =
-        subst (BoardsOn p.shape) (sym r.boards_are)
-        (record {
-          few = on.few;
-          each = λ k h.
-              let here = on.each k h in
-              record {
-                fine = here.fine;
-                row_in = subst (λ (x : ℕ). x < p.shape.rows) (sym (kept (λ (b : Board). b.row) (λ b. refl) k)) here.row_in;
-                column_in = subst (λ (x : ℕ). x < p.shape.columns) (sym (kept (λ (b : Board). b.column) (λ b. refl) k)) here.column_in;
-              };
-        })
+-- boards that are looked at stay where they are
+module _ (s : Shape) (depths : List ℕ) (starting : Bool) (clock : ℕ) (before : Boards) where
+  stays :
+      (what : Board → ℕ) → ((b : Board) → what (looked_at s depths starting clock b) ≡ what b) → (k : ℕ) →
+      what (get_or (refreshed s depths starting clock before).list k no_board) ≡ what (get_or before.list k no_board)
+  stays what h k = first_keeps (looked_at s depths starting clock) what h before.count before.list k no_board
+
+  pub still_on : {after : Boards} → BoardsOn s before → after ≡ refreshed s depths starting clock before → BoardsOn s after
+  unfolding looked_at
+  still_on on e =
+      subst (BoardsOn s) (sym e)
+      (record {
+        few = on.few;
+        each = λ k h.
+            let here = on.each k h in
+            record {
+              fine = here.fine;
+              row_in = subst (λ (x : ℕ). x < s.rows) (sym (stays (λ (b : Board). b.row) (λ b. pick_both (λ (x : Board). x.row ≡ b.row) starting refl refl) k)) here.row_in;
+              column_in = subst (λ (x : ℕ). x < s.columns) (sym (stays (λ (b : Board). b.column) (λ b. pick_both (λ (x : Board). x.column ≡ b.column) starting refl refl) k)) here.column_in;
+            };
+      })
 
 -- the same from the boards as they are after the starting state
 module _
@@ -102,18 +112,6 @@ module _
       {now : World} {steps : ℕ} {boards : Boards} → Watching p g w first now steps boards →
       boards ≡ counted (λ (b : Board). shown p g w b steps) before
   watching_whole {steps = steps} r = r.boards_are ∙ again steps
-
-  pub first_on : BoardsOn p.shape before → BoardsOn p.shape first
-  unfolding steps_on
-  first_on on = still_on p g w before {now = w} {steps = 0} (record { now_is = refl; boards_are = first_shows }) on
-
--- told with the boards
-pub told_with :
-    (p : Plan) (g : Given) (end : ℕ) (w : World) (before : Boards) {n steps : ℕ} {u : Run} {bs : Boards} {a : Shown} {depths lasts records : List ℕ} →
-    a ≡ shown_with n steps u bs → ended n steps (world depths lasts records u) ≡ whole p g end 0 w →
-    bs ≡ counted (λ (b : Board). shown p g w b steps) before → WatchesOn p g end w before a depths lasts records
-told_with p g end w before {depths = depths} {lasts} {records} e ends are =
-    subst (λ (x : Shown). WatchesOn p g end w before x depths lasts records) (sym e) (record { ends = ends; boards_are = are })
 
 -- ---- refusal 13
 

@@ -5,7 +5,7 @@ ghost use Rattle.checks.specs.Given.{given, ground};
 ghost use Rattle.display.specs.Watch.{Watches};
 ghost use Rattle.display.specs.Inner.Lent.{back_in, board_at, held_of};
 
-use crate::boards::{Board, Boards, MOST_BOARDS, Shown, no_boards, with_board};
+use crate::boards::{Board, Boards, MOST_BOARDS, no_boards, with_board};
 use crate::watch::run_boards;
 use flood::run::Ran;
 use grid::squares::Shape;
@@ -17,11 +17,8 @@ pub fn held_of(boards: &[Board]) -> Boards
     ensures { result ≡ held_of boards.now }
 {
     let mut held = no_boards();
-    let mut i = 0;
-    while i < boards.len() {
-        let board = boards[i];
-        held = with_board(held, board);
-        i += 1;
+    for board in boards {
+        held = with_board(held, *board);
     }
     held
 }
@@ -41,24 +38,9 @@ fn board_at(held: Boards, place: usize, board: Board) -> Board
 pub fn put_back(boards: &mut [Board], held: Boards)
     ensures { boards.new ≡ back_in held boards.old }
 {
-    let mut i = 0;
-    while i < boards.len() {
-        let board = boards[i];
-        boards[i] = board_at(held, i, board);
-        i += 1;
+    for (i, board) in boards.iter_mut().enumerate() {
+        *board = board_at(held, i, *board);
     }
-}
-
-fn ran_of(shown: Shown) -> Ran
-    ensures { result ≡ shown.ran }
-{
-    shown.ran
-}
-
-fn boards_of(shown: Shown) -> Boards
-    ensures { result ≡ shown.boards }
-{
-    shown.boards
 }
 
 // A run to an end by the wet walk as `flood::run::run_to` makes it, with a lent list of boards refreshed at its start and after each step; or a
@@ -86,7 +68,6 @@ pub fn run_to_boards(
         held, shape, rules, run, end, marks, beds, roughness, rates, rain, inflow, depths, lasts,
         records,
     );
-    let after = boards_of(shown);
-    put_back(boards, after);
-    ran_of(shown)
+    put_back(boards, shown.boards);
+    shown.ran
 }

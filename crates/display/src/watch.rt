@@ -1,5 +1,5 @@
 // A run to an end that shows each of its states to boards.
-ghost use Rattle.std.specs.Prelude.{◌≡◌, ◌||◌, ◌≤◌, max, leb, length};
+ghost use Rattle.std.specs.Prelude.{◌≡◌, ◌≤◌, leb, length};
 ghost use Rattle.reckon.specs.Ranges.{last_clock};
 ghost use Rattle.reckon.specs.Tests.{pick};
 ghost use Rattle.grid.specs.Marks.{Marked};
@@ -10,16 +10,15 @@ ghost use Rattle.adding.specs.Inner.Added.{rows_apart};
 ghost use Rattle.flood.specs.Step.{Passes};
 ghost use Rattle.display.specs.Boards.{board_fine, boards_fine, listed};
 ghost use Rattle.display.specs.Watch.{WatchesHeld};
-ghost use Rattle.display.specs.Inner.Refreshed.{BoardsOn, WatchesOn, cleared, looked_at, refreshed, seen_at, shown_with};
+ghost use Rattle.display.specs.Inner.Refreshed.{BoardsOn, WatchesOn, cleared, looked_at, refreshed, seen_after, seen_at, shown_with};
 
 use crate::boards::{Board, Boards, MOST_BOARDS, Shown};
 use adding::added::rows_apart;
 use adding::way::Way;
 use checks::refusals::check;
-use flood::run::Ran;
-use flood::step::step_on;
+use flood::run::{Keeper, Ran, run_kept};
 use grid::marks::is_closed;
-use grid::squares::{MOST_ALONG, MOST_SQUARES, Shape, square_at, squares_of};
+use grid::squares::{Shape, square_at};
 use grid::walks::Walk;
 use ledger::runs::Run;
 use reckon::ranges::MOST_DEPTH;
@@ -33,33 +32,11 @@ fn clear(board: Board) -> Board
     ensures { result ≡ cleared board }
 {
     Board {
-        row: board.row,
-        column: board.column,
-        mark: board.mark,
         highest: 0,
         reached: false,
         first: 0,
+        ..board
     }
-}
-
-// The highest depth seen, after one more.
-fn highest_with(board: Board, depth: u32) -> u32
-    ensures { result ≡ max board.highest depth }
-{
-    if board.highest < depth {
-        return depth;
-    }
-    board.highest
-}
-
-// Whether the mark was reached, after one more state so deep.
-fn reached_with(board: Board, depth: u32) -> bool
-    ensures { result ≡ (board.reached || leb board.mark depth) }
-{
-    if board.reached {
-        return true;
-    }
-    board.mark <= depth
 }
 
 // When it first was, after one more state so deep at a clock.
@@ -79,16 +56,11 @@ fn first_with(board: Board, depth: u32, clock: u64) -> u64
 fn seen(board: Board, depth: u32, clock: u64) -> Board
     ensures { result ≡ seen_at depth clock board }
 {
-    let highest = highest_with(board, depth);
-    let reached = reached_with(board, depth);
-    let first = first_with(board, depth, clock);
     Board {
-        row: board.row,
-        column: board.column,
-        mark: board.mark,
-        highest: highest,
-        reached: reached,
-        first: first,
+        highest: board.highest.max(depth),
+        reached: board.reached || board.mark <= depth,
+        first: first_with(board, depth, clock),
+        ..board
     }
 }
 
@@ -110,16 +82,12 @@ fn refresh(boards: Boards, starting: bool, clock: u64, shape: Shape, depths: &[u
     requires { (BoardsOn shape boards) × (length depths.now ≡ squares shape) }
     ensures { result ≡ refreshed shape depths.now starting clock boards }
 {
-    let count = boards.count;
     let mut list = boards.list;
-    let mut at: usize = 0;
-    while at < count {
-        let board = list[at];
-        list[at] = looked(board, starting, clock, shape, depths);
-        at += 1;
+    for board in &mut list[..boards.count] {
+        *board = looked(*board, starting, clock, shape, depths);
     }
     Boards {
-        count: count,
+        count: boards.count,
         list: list,
     }
 }
@@ -146,20 +114,12 @@ fn boards_fine(boards: Boards, shape: Shape, marks: &[u8]) -> bool
     requires { Marked shape marks.now }
     ensures { result ≡ boards_fine (plan shape marks.now) boards.count (listed boards) }
 {
-    let count = boards.count;
-    if MOST_BOARDS < count {
+    if MOST_BOARDS < boards.count {
         return false;
     }
-    let list = boards.list;
-    let mut at: usize = 0;
-    while at < count {
-        let board = list[at];
-        if !board_fine(board, shape, marks) {
-            return false;
-        }
-        at += 1;
-    }
-    true
+    boards.list[..boards.count]
+        .iter()
+        .all(|board| board_fine(*board, shape, marks))
 }
 
 // What a run came to, and the boards after it.
@@ -173,6 +133,17 @@ fn shown_with(refused: u32, steps: u64, run: Run, boards: Boards) -> Shown
             run: run,
         },
         boards: boards,
+    }
+}
+
+// Boards see the state after each step.
+impl Keeper for Boards {
+    ghost fits = { λ p clock boards. BoardsOn p.shape boards };
+
+    ghost keeps = { seen_after };
+
+    fn keep(&mut self, shape: Shape, marks: &[u8], depths: &[u32], before: u64, clock: u64) {
+        *self = refresh(*self, false, clock, shape, depths);
     }
 }
 
@@ -196,43 +167,15 @@ fn watch_on(
     requires boards_on { (BoardsOn way.shape boards) × (way.apart ≡ rows_apart inflow.now) × (end ≤ last_clock) }
     ensures { WatchesOn (plan way.shape marks.now) (given (ground way.rules beds.now roughness.now rates.now) rain.now inflow.now) end (world depths.old lasts.old records.old run) boards result depths.new lasts.new records.new }
 {
-    let squares = squares_of(way.shape);
-    let rows = way.shape.rows;
-    let mut left = [0u32; MOST_SQUARES];
-    let mut worked = [0u64; MOST_ALONG];
-    let mut senders = [0u64; MOST_ALONG];
-    let mut room = [0u32; MOST_SQUARES];
     let mut shown = refresh(boards, true, run.clock, way.shape, depths);
-    let mut at = run;
-    let mut steps: u64 = 0;
-    while at.clock < end {
-        let made = step_on(
-            way,
-            at,
-            marks,
-            beds,
-            roughness,
-            rates,
-            rain,
-            inflow,
-            depths,
-            lasts,
-            records,
-            &mut left[..squares],
-            &mut worked[..rows],
-            &mut senders[..rows],
-            &mut room[..squares],
-        );
-        let refused = made.refused;
-        let after = made.run;
-        if refused != 0 {
-            return shown_with(refused, steps, after, shown);
-        }
-        shown = refresh(shown, false, after.clock, way.shape, depths);
-        at = after;
-        steps += 1;
+    let ran = run_kept(
+        &mut shown, way, run, end, marks, beds, roughness, rates, rain, inflow, depths, lasts,
+        records,
+    );
+    Shown {
+        ran: ran,
+        boards: shown,
     }
-    shown_with(0, steps, at, shown)
 }
 
 // A run to an end by the wet walk as `flood::run::run_to` makes it, with the boards refreshed at its start and after each step; or a refusal.

@@ -46,9 +46,7 @@ fn take_list(rt: &(impl Files + Print), list: &[u8], listed: Listed) {
     let mut places = [0u8; PROGRAM_SQUARES];
     let mut numbers = [0u32; MOST_SHEETS];
     let mut tally = begin_tally(listed.wet);
-    let mut place: usize = 0;
-    while place < listed.names {
-        place += 1;
+    for place in 1..=listed.names {
         tally = take_name(
             rt,
             tally,

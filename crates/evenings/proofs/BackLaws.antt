@@ -79,9 +79,6 @@ pub record Backing (p : Plan) (count : ℕ) (start now : World) (steps : ℕ) : 
   pub rest : (left : ℕ) → left + steps ≡ count → back_from p left steps now ≡ back_from p count 0 start
 
 module _ (p : Plan) (count : ℕ) (start : World) where
-  pub backing_first : Backing p count start start 0
-  backing_first = record { most = omega arith; rest = λ left e. ap (λ (n : ℕ). back_from p n 0 start) (omega (arith, e)) }
-
   module _ {now after : World} {steps n : ℕ} (b : Backing p count start now steps) (l : steps < count) (m : BacksOnce p now n after) where
     pub backing_on : n ≡ 0 → Backing p count start after (steps + 1)
     unfolding back_from
@@ -100,9 +97,9 @@ module _ (p : Plan) (count : ℕ) (start : World) where
         ap₂ (λ (k : ℕ) (x : World). ended k steps x) m.number_is (m.world_is ∙ stays p now q)
         ∙ (sym (stops steps now _ q) ∙ b.rest (suc (count - steps - 1)) (omega arith))
 
-  pub backing_ends : {now : World} {steps : ℕ} → Backing p count start now steps → count ≤ steps → ended 0 steps now ≡ back_from p count 0 start
+  pub backing_ends : {now : World} {steps : ℕ} → Backing p count start now steps → count ≤ steps → ended 0 count now ≡ back_from p count 0 start
   unfolding back_from
-  backing_ends b h = b.rest 0 (omega (arith, b.most, h))
+  backing_ends {now} b h = ap (λ (k : ℕ). ended 0 k now) (omega (arith, b.most)) ∙ b.rest 0 (omega (arith, b.most, h))
 
 -- ---- where they come to
 

@@ -7,23 +7,19 @@ use Prim.Native.Nat.{ℕ, zero, suc, ◌+◌, ◌*◌, ◌/◌, ◌≤◌, ◌<�
 use native.Mathlib.Nat.{div-add-mod', mod-lt, mul-le-mul_right}
 use native.Mathlib.Omega.{arith}
 use lib.Dec.{eqb, ltb}
-use lib.ListN.{length, set, take, drop, replicate, length-append, length-drop, length-replicate, get_or-replicate}
-use lib.Seq.{ext_get_or, length-take-le, take_at, drop_at}
+use lib.ListN.{length, take, drop, replicate, length-append, length-drop, length-replicate}
+use lib.Seq.{length-take-le, take_at, drop_at}
 use borrow.Author.Tests.{leb-true, ltb-true, le-leb, lt-leb}
 use Rattle.reckon.specs.Tests.{every}
-use Rattle.reckon.specs.Lists.{filled}
 use Rattle.reckon.specs.Ranges.{most_table_rows}
 use Rattle.reckon.specs.Tables.{rain_kind, inflow_kind, table_room}
 use Rattle.reckon.proofs.TestLaws.{pick_true, pick_false, every_each, every_fails, and_true}
-use Rattle.reckon.proofs.ListLaws.{length-filled, filled_in, filled_store}
 use Rattle.grid.specs.Squares.{ShapeInRange, squares}
 use Rattle.grid.specs.declared.squares.Shape.{Shape}
 use Rattle.grid.proofs.SquareLaws.{ranges_of_fine}
 use Rattle.ledger.specs.Runs.{Plan, plan}
 use Rattle.checks.specs.Given.{Given, ground, given}
 use Rattle.ledger.specs.Record.{record_size}
-use Rattle.ledger.specs.declared.runs.Run.{Run}
-use Rattle.checks.specs.Fresh.{fresh_run}
 use Rattle.answer.specs.Printed.{refused_text}
 use Rattle.programs.specs.Program.{Prints, most_text, program_rooms, program_squares}
 use Rattle.sheet.specs.Sheet.{Rooms, rooms, rooms_after, line_one, shape_of, heading_of, Reads}
@@ -32,7 +28,7 @@ use Rattle.sheet.specs.declared.reading.Heading.{Heading}
 use Rattle.sheet.specs.declared.reading.Sheet.{Sheet}
 use Rattle.sheet.specs.declared.reading.Sheet.TheVariants.{Read, Refused}
 use Rattle.evenings.proofs.ShownLaws.{nothing_printed}
-use Rattle.hatches.specs.Log.{Evening, evening, opened, most_hatches, most_kept, most_numbers, kept_records}
+use Rattle.hatches.specs.Log.{Evening, evening, most_hatches, most_kept, most_numbers, kept_records}
 use Rattle.evenings.specs.Program.{Stores, stores, records_lent, rates_lent, plan_held, given_held, evening_held, Holds, is_left, night_fine, rooms_fit, night_fits, night_over, night_line, text_after, evening_after, night_after, first_night, no_night, sheet_begun, sheet_begun_text, begun, begun_text, begun_stores, Begins, GoesOn}
 use Rattle.evenings.specs.Shown.{TakesLine}
 use Rattle.evenings.specs.Inner.Sizes.{SizesAre, sizes_fit, night_with}
@@ -40,26 +36,6 @@ use Rattle.hatches.specs.declared.log.Log.{Log}
 use Rattle.evenings.specs.declared.program.Night.{Night}
 use Rattle.evenings.specs.declared.program.Sizes.{Sizes}
 use Rattle.evenings.specs.declared.telling.LineTaken.{LineTaken}
-
--- ---- a room cleared
-
--- its first so many
-abbrev pub cleared : ℕ → List ℕ → List ℕ
-cleared n old = filled n (λ i. false) (λ i. 0) old
-
-pub clear_more : (old : List ℕ) (i : ℕ) {room : List ℕ} → i < length old → room ≡ cleared i old → set room i 0 ≡ cleared (i + 1) old
-clear_more old i h e = ap (λ (l : List ℕ). set l i 0) e ∙ filled_store (λ i. false) (λ i. 0) old i h refl refl
-
-pub clear_long : (old : List ℕ) (i : ℕ) {room : List ℕ} → room ≡ cleared i old → length room ≡ length old
-clear_long old i e = ap length e ∙ length-filled i (λ i. false) (λ i. 0) old
-
-pub clear_whole : (old : List ℕ) (i : ℕ) {room : List ℕ} → room ≡ cleared i old → length old ≤ i → room ≡ replicate (length old) 0
-clear_whole old i e h =
-    e
-    ∙ ext_get_or 0 (cleared i old) (replicate (length old) 0) (length-filled i (λ i. false) (λ i. 0) old ∙ sym (length-replicate (length old) 0))
-    (λ k l.
-    let m : k < length old = omega (arith, l, length-filled i (λ i. false) (λ i. 0) old) in
-    filled_in i (λ i. false) (λ i. 0) old k m (omega arith) refl ∙ sym (get_or-replicate (length old) k 0 0 m))
 
 -- ---- how many records are kept
 
@@ -187,12 +163,6 @@ pub part_long : (n : ℕ) (room : List ℕ) → n ≤ length room → n ≡ leng
 part_long n room h = sym (length-take-le n room h)
 
 -- ---- the night before the first line
-
-pub night_first : (h : Heading) (long : ℕ) {slots : ℕ} {run : Run} {log : Log} → slots ≡ kept_records (plan h.shape []) → run ≡ fresh_run h.rules slots → log ≡ opened run →
-    ◌≡◌ {A = Night} (record { more = ltb 0 long; at = 0; line = 1; length = 0; heading = h; log = log }) (first_night h long)
-night_first h long a b c =
-    ap (λ (l : Log). record { more = ltb 0 long; at = 0; line = 1; length = 0; heading = h; log = l })
-    (c ∙ ap (λ (u : Run). opened u) (b ∙ ap (fresh_run h.rules) a))
 
 -- ---- no line is left, or the rooms do not fit
 

@@ -5,6 +5,7 @@ use mathlib.Core.Bool.{true, false}
 use mathlib.Core.List.{List, []}
 use Prim.Native.Nat.{ℕ, zero, suc, ◌≤◌, ◌<◌, ◌^◌}
 use native.Mathlib.Omega.{arith}
+use Rattle.std.proofs.Common.{Option, Some, None}
 use lib.ListN.{length, get_or}
 use borrow.Author.Tests.{eq-eqb, ne_eqb}
 use Rattle.reckon.specs.Tests.{pick, refusal}
@@ -19,8 +20,8 @@ use Rattle.answer.specs.Printed.{refused_text, made_text}
 use Rattle.programs.specs.Program.{Prints, most_printed, program_squares}
 use Rattle.hatches.specs.Lines.{log_line}
 use Rattle.hatches.specs.Log.{Evening, entry_refusals}
-use Rattle.evenings.specs.Taking.{entry_number, after_entry, TakesEntry}
-use Rattle.evenings.specs.Shown.{is_shown, stands_text, entry_text, TakesLine}
+use Rattle.evenings.specs.Taking.{entry_number, read_number, after_read, TakesEntry}
+use Rattle.evenings.specs.Shown.{is_shown, stands_text, entry_text, shown_of, TakesLine}
 use Rattle.hatches.specs.declared.lines.LogLine.{LogLine}
 use Rattle.hatches.specs.declared.log.Log.{Log}
 use Rattle.hatches.specs.declared.lines.Entry.{Entry}
@@ -70,18 +71,36 @@ shown_lent p g e entry h z = go (refusal (entry_refusals p g e entry)) refl
         absurd (d (sym (h ∙ pick_false _ _ (ne_eqb _ _ d)) ∙ z))
 
 -- a line read, taken and printed
-pub shown_whole :
-    (p : Plan) (g : Given) (s : List ℕ) (at line : ℕ) (e : Evening) {l : LogLine} {number r : ℕ} {after : Evening} {log : Log} {old new : List ℕ} →
-    l ≡ log_line s at → TakesEntry p g l.entry e number after → Prints (entry_text p number l.entry line after) old new r →
-    TakesLine p g s at line e (record { number = number; next = l.next; length = r; log = log }) after old new
-shown_whole p g s at line e {l} {number} {r} {after} {log} {old} {new} h t w =
-    record {
-      number_is = t.number_is ∙ ap (λ (x : LogLine). entry_number p g e x.entry) h;
-      next_is = ap (λ (x : LogLine). x.next) h;
-      evening_is = t.evening_is ∙ ap (λ (x : LogLine). after_entry p g e x.entry) h;
-      prints =
-          subst (λ (x : List ℕ). Prints x old new r)
-          (ap₂ (λ (n : ℕ) (x : Evening). entry_text p n l.entry line x) t.number_is t.evening_is
-          ∙ ap (λ (x : LogLine). entry_text p (entry_number p g e x.entry) x.entry line (after_entry p g e x.entry)) h)
-          w;
-    }
+module _ (p : Plan) (g : Given) (s : List ℕ) (at line : ℕ) (e : Evening) {l : LogLine} (h : l ≡ log_line s at) where
+  pub shown_whole :
+      {entry : Entry} {number r : ℕ} {after : Evening} {log : Log} {old new : List ℕ} → l.entry ≡ Some entry →
+      TakesEntry p g (Some entry) e number after → Prints (entry_text p number entry line after) old new r →
+      TakesLine p g s at line e (record { number = number; next = l.next; length = r; log = log }) after old new
+  shown_whole {entry} {number} {r} {after} {log} {old} {new} q t w =
+      let k : Some entry ≡ (log_line s at).entry = sym q ∙ ap (λ (x : LogLine). x.entry) h in
+      record {
+        number_is = t.number_is ∙ ap (read_number p g e) k;
+        next_is = ap (λ (x : LogLine). x.next) h;
+        evening_is = t.evening_is ∙ ap (after_read p g e) k;
+        prints =
+            subst (λ (x : List ℕ). Prints x old new r)
+            (ap₂ (λ (n : ℕ) (x : Evening). entry_text p n entry line x) t.number_is t.evening_is
+            ∙ ap (λ (x : Option Entry). shown_of p (read_number p g e x) x line (after_read p g e x)) k)
+            w;
+      }
+
+  -- one that cannot be read
+  pub shown_unread :
+      {r : ℕ} {log : Log} {old new : List ℕ} → l.entry ≡ None → Prints (refused_text 12 line) old new r →
+      TakesLine p g s at line e (record { number = 12; next = l.next; length = r; log = log }) e old new
+  shown_unread {r} {log} {old} {new} q w =
+      let k : None ≡ (log_line s at).entry = sym q ∙ ap (λ (x : LogLine). x.entry) h in
+      record {
+        number_is = ap (read_number p g e) k;
+        next_is = ap (λ (x : LogLine). x.next) h;
+        evening_is = ap (after_read p g e) k;
+        prints =
+            subst (λ (x : List ℕ). Prints x old new r)
+            (ap (λ (x : Option Entry). shown_of p (read_number p g e x) x line (after_read p g e x)) k)
+            w;
+      }

@@ -7,6 +7,7 @@ use Prim.Native.Nat.{ℕ, zero, suc, ◌+◌, ◌-◌, ◌≤◌, ◌<◌}
 use native.Mathlib.Omega.{arith}
 use lib.Dec.{eqb, ltb}
 use borrow.Author.Tests.{eq-eqb, ne_eqb}
+use Rattle.std.specs.Prelude.{Some}
 use Rattle.reckon.specs.Tests.{pick, refusal}
 use Rattle.reckon.proofs.TestLaws.{pick_true, pick_false}
 use Rattle.trials.proofs.RingLaws.{fine_ring}
@@ -22,7 +23,7 @@ use Rattle.flood.proofs.RunToLaws.{checks_passed}
 use Rattle.hatches.specs.Log.{Evening, evening, rates_kept, rates_back, log_with, hatch_named, entry_refusals}
 use Rattle.evenings.specs.Taking.{rates_with, line_run, line_back, further, slots, after_hatch, after_rate, after_back, entered, steps_number, entry_number, after_entry, TakesEntry}
 use Rattle.hatches.specs.declared.lines.Entry.{Entry}
-use Rattle.hatches.specs.declared.lines.Entry.TheVariants.{Hatch, Rate, Back, Unread}
+use Rattle.hatches.specs.declared.lines.Entry.TheVariants.{Hatch, Rate, Back}
 use Rattle.hatches.specs.declared.log.Log.{Log}
 use Rattle.evenings.proofs.RingSteps.{run_made}
 
@@ -100,14 +101,14 @@ module _ (p : Plan) (g : Given) (e : Evening) where
 
   -- ---- a line that is refused before its steps, and one that is not
 
-  pub take-refused : (entry : Entry) {n : ℕ} → n ≡ refusal (entry_refusals p g e entry) → (n ≡ 0 → ⊥) → TakesEntry p g entry e n e
+  pub take-refused : (entry : Entry) {n : ℕ} → n ≡ refusal (entry_refusals p g e entry) → (n ≡ 0 → ⊥) → TakesEntry p g (Some entry) e n e
   unfolding entry_number after_entry
   take-refused entry h d =
       let z : eqb (refusal (entry_refusals p g e entry)) 0 ≡ false = ne_eqb _ _ (λ y. d (h ∙ y)) in
       record { number_is = h ∙ sym (pick_false _ _ z); evening_is = sym (pick_false _ _ z) }
 
   pub take_made : (entry : Entry) → refusal (entry_refusals p g e entry) ≡ 0 → {n : ℕ} {after : Evening} → n ≡ steps_number p g e entry → after ≡ entered p g e entry →
-      TakesEntry p g entry e n after
+      TakesEntry p g (Some entry) e n after
   unfolding entry_number after_entry
   take_made entry z a b =
       let y = eq-eqb _ _ z in
@@ -116,22 +117,18 @@ module _ (p : Plan) (g : Given) (e : Evening) where
 -- by the kind of line
 module _ (p : Plan) (g : Given) (e : Evening) {entry : Entry} (z : refusal (entry_refusals p g e entry) ≡ 0) where
   pub took_hatch : {n row column : ℕ} → entry ≡ Hatch n row column → {log : Log} → log ≡ hatch_named e.log n row column →
-      TakesEntry p g entry e 0 (evening e.depths e.lasts e.records e.began log)
+      TakesEntry p g (Some entry) e 0 (evening e.depths e.lasts e.records e.began log)
   unfolding steps_number entered after_hatch
   took_hatch h l =
       take_made p g e entry z (ap (steps_number p g e) (sym h))
       (ap (λ (m : Log). evening e.depths e.lasts e.records e.began m) l ∙ ap (entered p g e) (sym h))
 
   pub took_rate : {clock n rate number : ℕ} {after : Evening} → entry ≡ Rate clock n rate →
-      (number ≡ (line_run p g e clock).number) × (after ≡ after_rate p g e clock n rate) → TakesEntry p g entry e number after
+      (number ≡ (line_run p g e clock).number) × (after ≡ after_rate p g e clock n rate) → TakesEntry p g (Some entry) e number after
   unfolding steps_number entered
   took_rate h t = take_made p g e entry z (t.0 ∙ ap (steps_number p g e) (sym h)) (t.1 ∙ ap (entered p g e) (sym h))
 
   pub took_back : {count number : ℕ} {after : Evening} → entry ≡ Back count →
-      (number ≡ (line_back p g e count).number) × (after ≡ after_back p g e count) → TakesEntry p g entry e number after
+      (number ≡ (line_back p g e count).number) × (after ≡ after_back p g e count) → TakesEntry p g (Some entry) e number after
   unfolding steps_number entered
   took_back h t = take_made p g e entry z (t.0 ∙ ap (steps_number p g e) (sym h)) (t.1 ∙ ap (entered p g e) (sym h))
-
-  pub took_none : entry ≡ Unread → TakesEntry p g entry e 0 e
-  unfolding steps_number entered
-  took_none h = take_made p g e entry z (ap (steps_number p g e) (sym h)) (ap (entered p g e) (sym h))

@@ -17,7 +17,7 @@ use Rattle.answer.specs.Printed.{refused_text}
 use Rattle.programs.specs.Program.{Prints, most_text, program_rooms, program_squares}
 use Rattle.hatches.specs.Lines.{log_line}
 use Rattle.hatches.specs.Log.{Evening, evening, most_hatches, most_kept, most_numbers, kept_records, opened}
-use Rattle.evenings.specs.Taking.{entry_number, after_entry}
+use Rattle.evenings.specs.Taking.{read_number, after_read}
 use Rattle.evenings.specs.Shown.{line_shown}
 use Rattle.hatches.specs.declared.log.Log.{Log}
 use Rattle.evenings.specs.declared.program.Night.{Night}
@@ -31,8 +31,8 @@ module _ (p : Plan) (g : Given) (s : List ℕ) where
   lines_text (suc most) at line e =
       pick (ltb at (length s))
       (line_shown p g s at line e
-      ++ pick (eqb (entry_number p g e (log_line s at).entry) 0)
-      (lines_text most (log_line s at).next (line + 1) (after_entry p g e (log_line s at).entry)) [])
+      ++ pick (eqb (read_number p g e (log_line s at).entry) 0)
+      (lines_text most (log_line s at).next (line + 1) (after_read p g e (log_line s at).entry)) [])
       []
 
   -- the lines from a position on
@@ -143,10 +143,10 @@ night_over n long = record { more = false; at = n.at; line = n.line; length = lo
 
 module _ (s : List ℕ) (n : Night) (r : Stores) where
   abbrev pub night_number : ℕ
-  night_number = entry_number (plan_held n.heading r) (given_held n.heading r) (evening_held n.heading r n.log) (log_line s n.at).entry
+  night_number = read_number (plan_held n.heading r) (given_held n.heading r) (evening_held n.heading r n.log) (log_line s n.at).entry
 
   abbrev pub night_evening : Evening
-  night_evening = after_entry (plan_held n.heading r) (given_held n.heading r) (evening_held n.heading r n.log) (log_line s n.at).entry
+  night_evening = after_read (plan_held n.heading r) (given_held n.heading r) (evening_held n.heading r n.log) (log_line s n.at).entry
 
   abbrev pub night_line : List ℕ
   night_line = line_shown (plan_held n.heading r) (given_held n.heading r) s n.at n.line (evening_held n.heading r n.log)

@@ -1,15 +1,15 @@
 -- Document 02, #107, "The hatch log": what a line does.
 -- Assumes nothing.
-use Rattle.std.specs.Prelude.{◌≡◌, List, ℕ, zero, suc, ◌+◌, ◌-◌, eqb, set}
+use Rattle.std.specs.Prelude.{◌≡◌, List, ℕ, zero, suc, ◌+◌, ◌-◌, eqb, set, Option, Some, None}
 use Rattle.reckon.specs.Tests.{pick, refusal}
 use Rattle.ledger.specs.Runs.{Plan, World, world}
 use Rattle.ledger.specs.Record.{room_slots}
 use Rattle.ledger.specs.TakeBack.{back_number, taken_back}
 use Rattle.checks.specs.Given.{Given, given}
 use Rattle.flood.specs.Run.{Ended, ended, go_on, run_to}
-use Rattle.hatches.specs.Log.{Evening, evening, table_with, rates_kept, rates_back, entry_refusals, hatch_named, log_with}
+use Rattle.hatches.specs.Log.{Evening, evening, table_with, rates_kept, rates_back, entry_refusals, hatch_named, log_with, line_refusal}
 use Rattle.hatches.specs.declared.lines.Entry.{Entry}
-use Rattle.hatches.specs.declared.lines.Entry.TheVariants.{Hatch, Rate, Back, Unread}
+use Rattle.hatches.specs.declared.lines.Entry.TheVariants.{Hatch, Rate, Back}
 use Rattle.hatches.specs.declared.log.Hatches.{Hatches}
 
 -- what is given to a step of what the sheet gives: its table has the hatches' rows, too
@@ -63,14 +63,12 @@ module _ (p : Plan) (g : Given) (e : Evening) where
   entered (Hatch n row column) = after_hatch n row column
   entered (Rate clock n litres) = after_rate clock n litres
   entered (Back count) = after_back count
-  entered Unread = e
 
   -- the number of a line's own steps, 0 for none
   unfoldable pub steps_number : Entry → ℕ
   steps_number (Rate clock n litres) = (line_run clock).number
   steps_number (Back count) = (line_back count).number
   steps_number (Hatch n row column) = 0
-  steps_number Unread = 0
 
   -- the number that a line is refused with, 0 for none
   unfoldable pub entry_number : Entry → ℕ
@@ -81,9 +79,18 @@ module _ (p : Plan) (g : Given) (e : Evening) where
   unfoldable pub after_entry : Entry → Evening
   after_entry entry = pick (eqb (refusal (entry_refusals p g e entry)) 0) (entered entry) e
 
+-- the same of a line of the log: "a log line that can't be read" is 12, and changes nothing
+abbrev pub read_number : Plan → Given → Evening → Option Entry → ℕ
+read_number p g e (Some entry) = entry_number p g e entry
+read_number p g e None = line_refusal p g e None
+
+abbrev pub after_read : Plan → Given → Evening → Option Entry → Evening
+after_read p g e (Some entry) = after_entry p g e entry
+after_read p g e None = e
+
 -- ---- what the public function gives
 
 -- the number and the evening afterwards, of what a line says
-pub record TakesEntry (p : Plan) (g : Given) (entry : Entry) (e : Evening) (number : ℕ) (after : Evening) : Type 0 where
-  pub number_is : number ≡ entry_number p g e entry
-  pub evening_is : after ≡ after_entry p g e entry
+pub record TakesEntry (p : Plan) (g : Given) (entry : Option Entry) (e : Evening) (number : ℕ) (after : Evening) : Type 0 where
+  pub number_is : number ≡ read_number p g e entry
+  pub evening_is : after ≡ after_read p g e entry

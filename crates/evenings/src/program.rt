@@ -49,22 +49,7 @@ struct Sizes {
 pub fn clear(room: &mut [u32])
     ensures { Cleared room.old room.new }
 {
-    let mut i: usize = 0;
-    while i < room.len() {
-        room[i] = 0;
-        i += 1;
-    }
-}
-
-// Writes 0 over a room of bytes.
-fn clear_bytes(room: &mut [u8])
-    ensures { room.new ≡ replicate (length room.old) 0 }
-{
-    let mut i: usize = 0;
-    while i < room.len() {
-        room[i] = 0;
-        i += 1;
-    }
+    room.fill(0);
 }
 
 // Writes 0 over the rooms of a sheet.
@@ -79,7 +64,7 @@ fn clear_sheet(
 )
     ensures { rooms marks.new beds.new roughness.new rates.new depths.new rain.new inflow.new ≡ program_rooms }
 {
-    clear_bytes(marks);
+    marks.fill(0);
     clear(beds);
     clear(roughness);
     clear(rates);

@@ -173,8 +173,7 @@ fn take_backs(
 {
     let most = count as u64;
     let mut at = run;
-    let mut steps: u64 = 0;
-    while steps < most {
+    for steps in 0..most {
         let back = back_once(at, shape, marks, depths, lasts, records);
         let refused = back.refused;
         let before = back.run;
@@ -186,11 +185,10 @@ fn take_backs(
             };
         }
         at = before;
-        steps += 1;
     }
     Ran {
         refused: 0,
-        steps: steps,
+        steps: most,
         run: at,
     }
 }
@@ -221,8 +219,57 @@ pub fn back_line(
 }
 
 // What a line says, done; or a refusal.
+fn take_said(
+    said: Entry,
+    log: Log,
+    shape: Shape,
+    rules: Rules,
+    marks: &[u8],
+    beds: &[u32],
+    roughness: &[u32],
+    rates: &[u32],
+    rain: &[u32],
+    inflow: &[u32],
+    depths: &mut [u32],
+    lasts: &mut [u32],
+    records: &mut [u32],
+    began: &mut [u32],
+) -> EntryTaken
+    ensures { TakesEntry (plan shape marks.now) (given (ground rules beds.now roughness.now rates.now) rain.now inflow.now) (Some said) (evening depths.old lasts.old records.old began.old log) result.number (evening depths.new lasts.new records.new began.new result.log) }
+{
+    let refused = entry_number(
+        Some(said),
+        log,
+        shape,
+        rules,
+        marks,
+        inflow,
+        depths,
+        records,
+        began,
+    );
+    if refused != 0 {
+        return EntryTaken {
+            number: refused,
+            log: log,
+        };
+    }
+    match said {
+        Entry::Hatch(number, row, column) => EntryTaken {
+            number: 0,
+            log: name_hatch(log, number, row, column),
+        },
+        Entry::Rate(clock, number, litres) => run_line(
+            log, clock, number, litres, shape, rules, marks, beds, roughness, rates, rain, inflow,
+            depths, lasts, records, began,
+        ),
+        Entry::Back(count) => back_line(log, count, shape, marks, depths, lasts, records, began),
+    }
+}
+
+// What a line says, done; or a refusal, which is 12 where it cannot be read.
 pub fn take_entry(
-    entry: Entry,
+    entry: Option<Entry>,
     log: Log,
     shape: Shape,
     rules: Rules,
@@ -239,28 +286,14 @@ pub fn take_entry(
 ) -> EntryTaken
     ensures { TakesEntry (plan shape marks.now) (given (ground rules beds.now roughness.now rates.now) rain.now inflow.now) entry (evening depths.old lasts.old records.old began.old log) result.number (evening depths.new lasts.new records.new began.new result.log) }
 {
-    let refused = entry_number(
-        entry, log, shape, rules, marks, inflow, depths, records, began,
-    );
-    if refused != 0 {
+    let Some(said) = entry else {
         return EntryTaken {
-            number: refused,
+            number: 12,
             log: log,
         };
-    }
-    match entry {
-        Entry::Hatch(number, row, column) => EntryTaken {
-            number: 0,
-            log: name_hatch(log, number, row, column),
-        },
-        Entry::Rate(clock, number, litres) => run_line(
-            log, clock, number, litres, shape, rules, marks, beds, roughness, rates, rain, inflow,
-            depths, lasts, records, began,
-        ),
-        Entry::Back(count) => back_line(log, count, shape, marks, depths, lasts, records, began),
-        Entry::Unread => EntryTaken {
-            number: 0,
-            log: log,
-        },
-    }
+    };
+    take_said(
+        said, log, shape, rules, marks, beds, roughness, rates, rain, inflow, depths, lasts,
+        records, began,
+    )
 }

@@ -33,7 +33,6 @@ fn is_shown(entry: Entry) -> bool
         Entry::Hatch(number, row, column) => false,
         Entry::Rate(clock, number, litres) => true,
         Entry::Back(count) => true,
-        Entry::Unread => false,
     }
 }
 
@@ -86,10 +85,29 @@ pub fn take_line(
     ensures { TakesLine (plan shape marks.now) (given (ground rules beds.now roughness.now rates.now) rain.now inflow.now) text.now at line (evening depths.old lasts.old records.old began.old log) result (evening depths.new lasts.new records.new began.new result.log) out.old out.new }
 {
     let read = log_line(text, at);
-    let entry = read.entry;
+    let Some(entry) = read.entry else {
+        return LineTaken {
+            number: 12,
+            next: read.next,
+            length: put_refused(out, 0, 12, line),
+            log: log,
+        };
+    };
     let came = take_entry(
-        entry, log, shape, rules, marks, beds, roughness, rates, rain, inflow, depths, lasts,
-        records, began,
+        Some(entry),
+        log,
+        shape,
+        rules,
+        marks,
+        beds,
+        roughness,
+        rates,
+        rain,
+        inflow,
+        depths,
+        lasts,
+        records,
+        began,
     );
     let number = came.number;
     let after = came.log;

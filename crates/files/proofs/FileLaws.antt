@@ -3,7 +3,7 @@
 use mathlib.Core.Path.{◌≡◌, refl, sym, ap, subst, ◌∙◌}
 use mathlib.Core.Bool.{Bool, false, not}
 use mathlib.Core.List.{List, ◌++◌}
-use Prim.Native.Nat.{ℕ, ◌+◌, ◌-◌, ◌≤◌, ◌<◌}
+use Prim.Native.Nat.{ℕ, ◌+◌, ◌-◌, ◌≤◌}
 use native.Mathlib.Omega.{arith}
 use lib.Dec.{ltb}
 use lib.ListN.{length, take, drop, drop_of_length-le, length-drop}
@@ -18,7 +18,7 @@ use Rattle.text.specs.Writing.{Wrote}
 use Rattle.text.specs.declared.lines.Line.{Line}
 use Rattle.text.proofs.EndLaws.{start-within, end-within}
 use Rattle.text.proofs.WritingLaws.{wrote_length}
-use Rattle.files.specs.Files.{InputCame, FileCame, NamedCame, HandedOn, OneCame, NamedWritten, most_name, not_read}
+use Rattle.files.specs.Files.{InputCame, FileCame, NamedCame, HandedOn, OneCame, not_read}
 use Rattle.files.specs.Inner.Reading.{CameOn, handed_of}
 use Rattle.files.specs.declared.Came.{Came}
 
@@ -44,9 +44,6 @@ put_came {t} {old} {new} {at} {r} h w =
 pub came_fits : (long at got most : ℕ) (s : List ℕ) → at ≤ long → most ≤ long - at → got ≤ most → at + length (take got s) ≤ long
 came_fits long at got most s h f k = omega (arith, length-take got s)
 
-pub none_came : (old : List ℕ) (at : ℕ) → at ≤ length old → CameOn at at old old
-none_came old at h = record { long = refl; on = omega arith; within = h; rest = refl }
-
 pub more_came : {old mid new : List ℕ} {from at to : ℕ} → CameOn from at old mid → CameOn at to mid new → CameOn from to old new
 more_came {old} {mid} {new} {from} {at} {to} a b =
     let on : at + (to - at) ≡ to = omega (arith, b.on) in
@@ -60,20 +57,6 @@ more_came {old} {mid} {new} {from} {at} {to} a b =
           ∙ (sym (drop-drop (to - at) at mid)
           ∙ (ap (drop (to - at)) a.rest ∙ (drop-drop (to - at) at old ∙ ap (λ (k : ℕ). drop k old) on))));
     }
-
--- what came from a room's start
-pub all_came : {old new : List ℕ} {n : ℕ} (r : Came) → CameOn 0 n old new → r.length ≡ n → InputCame old new r
-all_came {old} {new} {n} r a e =
-    let within : r.length ≤ length new = omega (arith, a.within, a.long) in
-    record {
-      long = a.long;
-      within = within;
-      counted = sym (length-take-le r.length new within);
-      rest = rw e a.rest;
-    }
-
-pub nothing_came : (old : List ℕ) {r : Came} → r ≡ not_read → InputCame old old r
-nothing_came old {r} e = all_came r (none_came old 0 (omega arith)) (ap (λ (x : Came). x.length) e)
 
 -- a line lies in the names
 module _ (names : List ℕ) (k : ℕ) {line : Line} (e : line ≡ nth_line names k) where
@@ -145,16 +128,3 @@ one_handed names k of {after} {old} {new} {r} {room} {n} a f e h =
     all_of z =
         ap (pick (ltb after.from (length names)) room) (ap (λ (x : Came). handed_of x room) z ∙ pick_false _ _ refl)
         ∙ pick_same (ltb after.from (length names)) room
-
--- a file that is a line of a list is written or not by its name
-pub named-written :
-    (names : List ℕ) (k : ℕ) {line : Line} {n : ℕ} {r : Bool} → line ≡ nth_line names k → not line.ended ≡ false → n ≡ line.to - line.from →
-    (most_name < n → r ≡ false) → NamedWritten names k r
-named-written names k e h l f =
-    record {
-      too_long = λ g. f (omega (arith, l, ap (λ (x : Line). x.to) e, ap (λ (x : Line). x.from) e));
-      no_newline = λ g. not_both (ap not (ap (λ (x : Line). x.ended) e ∙ g)) h;
-    }
-
-pub not_written : (names : List ℕ) (k : ℕ) → NamedWritten names k false
-not_written names k = record { too_long = λ g. refl; no_newline = λ g. refl }

@@ -27,6 +27,7 @@ use text::writing::put_word;
 
 // What a read of a whole file came to: how many bytes came, and whether that is all of them, or all that the room holds. It is not where the
 // file cannot be opened, or where a read of it fails, as a directory's does: what came before that may read well, and is not the file.
+// No Result: most callers go on with the bytes that came, whole or not.
 #[derive(Clone, Copy)]
 pub struct Came {
     pub whole: bool,
@@ -38,13 +39,6 @@ pub struct Came {
 pub struct Two {
     pub first: usize,
     pub second: usize,
-}
-
-// One read's answer: the position after what came, and whether the read failed.
-#[derive(Clone, Copy)]
-struct Next {
-    failed: bool,
-    at: usize,
 }
 
 // The most bytes of a name that the system takes.
@@ -65,28 +59,17 @@ fn not_read() -> Came
     }
 }
 
-fn least(a: usize, b: usize) -> usize
-    ensures { (result ≤ a) × (result ≤ b) }
-{
-    if a < b { a } else { b }
-}
-
 // One read of a file into a room at a position, as much of it as fits; by way of a room of its own, so that the rest of the lent one stays.
-fn read_on<R: Read>(file: &mut R, room: &mut [u8], at: usize) -> Next
+// Its answer is the position after what came, none where the read failed.
+fn read_on<R: Read>(file: &mut R, room: &mut [u8], at: usize) -> Option<usize>
     requires { at ≤ length room.old }
     ensures { ReadOn at room.old room.new result }
 {
     let mut chunk = [0u8; CHUNK];
-    let fits = least(CHUNK, room.len() - at);
+    let fits = CHUNK.min(room.len() - at);
     match file.read(&mut chunk[..fits]) {
-        Err(_) => Next {
-            failed: true,
-            at: at,
-        },
-        Ok(got) => Next {
-            failed: false,
-            at: put_word(room, at, &chunk[..got]),
-        },
+        Err(_) => None,
+        Ok(got) => Some(put_word(room, at, &chunk[..got])),
     }
 }
 
@@ -96,14 +79,12 @@ pub fn read_all<R: Read>(file: &mut R, room: &mut [u8]) -> Came
 {
     let mut at: usize = 0;
     while at < room.len() {
-        let next = read_on(file, room, at);
-        let after = next.at;
-        if next.failed {
+        let Some(after) = read_on(file, room, at) else {
             return Came {
                 whole: false,
-                length: after,
+                length: at,
             };
-        }
+        };
         if after <= at {
             return Came {
                 whole: true,

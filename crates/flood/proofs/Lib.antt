@@ -1,5 +1,6 @@
 pub mod AccountLaws
 pub mod Determined
+pub mod KeptLaws
 pub mod RuleLaws
 pub mod RunInTwoLaws
 pub mod RunToLaws

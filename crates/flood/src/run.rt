@@ -1,12 +1,13 @@
 // A run to an end: the checks once, then steps while the clock is below the end.
-ghost use Rattle.std.specs.Prelude.{◌≡◌, ◌≤◌};
+ghost use Rattle.std.specs.Prelude.{◌≡◌, ◌<◌, ◌≤◌, List, ℕ, length, ⊤};
 ghost use Rattle.reckon.specs.Ranges.{last_clock};
-ghost use Rattle.ledger.specs.Runs.{plan, world};
+ghost use Rattle.grid.specs.Squares.{ShapeInRange, squares};
+ghost use Rattle.ledger.specs.Runs.{Plan, plan, world};
 ghost use Rattle.checks.specs.Given.{given, ground};
 ghost use Rattle.adding.specs.Inner.Added.{rows_apart};
 ghost use Rattle.flood.specs.Step.{Passes};
 ghost use Rattle.flood.specs.Run.{RunsTo};
-ghost use Rattle.flood.specs.Inner.Run.{RunsOn};
+ghost use Rattle.flood.specs.Inner.Run.{RunsKept};
 
 use crate::step::step_on;
 use adding::added::rows_apart;
@@ -25,8 +26,36 @@ pub struct Ran {
     pub run: Run,
 }
 
-// Steps while the clock is below the end, up to a step that is refused, all in the same working rooms.
-fn run_on(
+// What is kept of a run besides its state, and changed by each step.
+pub trait Keeper {
+    // By a plan and a clock: it can take in what the next step does.
+    ghost fits: { Plan → ℕ → Self → Type 0 };
+
+    // By a plan, the depths after a step, and the clocks before and after it: what the step makes of it.
+    ghost keeps: { Plan → List ℕ → ℕ → ℕ → Self → Self → Type 0 };
+
+    fn keep(&mut self, shape: Shape, marks: &[u8], depths: &[u32], before: u64, clock: u64)
+        requires lies { (ShapeInRange shape) × (length marks.now ≡ squares shape) × (length depths.now ≡ squares shape) }
+        requires fits { (fits (plan shape marks.now) before self.old) × (before < clock) × (clock ≤ last_clock) }
+        ensures keeps { keeps (plan shape marks.now) depths.now before clock self.old self.new }
+        ensures fits { fits (plan shape marks.now) clock self.new };
+}
+
+// The plain run keeps nothing.
+#[derive(Drop)]
+struct Nothing;
+
+impl Keeper for Nothing {
+    ghost fits = { λ p clock kept. ⊤ };
+
+    ghost keeps = { λ p depths before clock kept after. ⊤ };
+
+    fn keep(&mut self, shape: Shape, marks: &[u8], depths: &[u32], before: u64, clock: u64) {}
+}
+
+// Steps while the clock is below the end, up to a step that is refused, all in the same working rooms; each that is made is kept.
+pub fn run_kept<K: Keeper>(
+    kept: &mut K,
     way: Way,
     run: Run,
     end: u64,
@@ -42,7 +71,8 @@ fn run_on(
 ) -> Ran
     requires passes { Passes (plan way.shape marks.now) (given (ground way.rules beds.now roughness.now rates.now) rain.now inflow.now) (world depths.old lasts.old records.old run) }
     requires apart_value { (way.apart ≡ rows_apart inflow.now) × (end ≤ last_clock) }
-    ensures { RunsOn (plan way.shape marks.now) (given (ground way.rules beds.now roughness.now rates.now) rain.now inflow.now) end (world depths.old lasts.old records.old run) result depths.new lasts.new records.new }
+    requires kept_fits { K.fits (plan way.shape marks.now) run.clock kept.old }
+    ensures { RunsKept K.keeps (plan way.shape marks.now) (given (ground way.rules beds.now roughness.now rates.now) rain.now inflow.now) end (world depths.old lasts.old records.old run) kept.old result depths.new lasts.new records.new kept.new }
 {
     let squares = squares_of(way.shape);
     let rows = way.shape.rows;
@@ -79,6 +109,7 @@ fn run_on(
                 run: after,
             };
         }
+        kept.keep(way.shape, marks, depths, at.clock, after.clock);
         at = after;
         steps += 1;
     }
@@ -136,7 +167,19 @@ pub fn run_to(
         rules: rules,
         apart: rows_apart(inflow),
     };
-    run_on(
-        way, run, end, marks, beds, roughness, rates, rain, inflow, depths, lasts, records,
+    run_kept(
+        &mut Nothing,
+        way,
+        run,
+        end,
+        marks,
+        beds,
+        roughness,
+        rates,
+        rain,
+        inflow,
+        depths,
+        lasts,
+        records,
     )
 }

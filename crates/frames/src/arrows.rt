@@ -61,10 +61,8 @@ pub fn put_arrows(
 {
     let squares = squares_of(shape);
     let mut next = at;
-    let mut square: usize = 0;
-    while square < squares {
+    for square in 0..squares {
         next = put_arrow(out, next, shape, kinds, east, north, square);
-        square += 1;
     }
     next
 }

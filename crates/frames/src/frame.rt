@@ -52,10 +52,8 @@ fn put_squares(
     ensures { Wrote (joined columns (λ c. square_text marks.now depths.now (first + c))) at out.old out.new result }
 {
     let mut next = at;
-    let mut column: usize = 0;
-    while column < columns {
+    for column in 0..columns {
         next = put_square(out, next, marks, depths, first + column);
-        column += 1;
     }
     next
 }
@@ -87,10 +85,8 @@ fn put_rows(out: &mut [u8], at: usize, shape: Shape, marks: &[u8], depths: &[u32
     let rows = shape.rows;
     let columns = shape.columns;
     let mut next = at;
-    let mut row: usize = 0;
-    while row < rows {
+    for row in 0..rows {
         next = put_row(out, next, marks, depths, row * columns, columns);
-        row += 1;
     }
     next
 }
@@ -120,17 +116,7 @@ fn put_rates(out: &mut [u8], at: usize, litres: [u32; 9]) -> usize
     requires { at + length (rates_text litres) ≤ length out.old }
     ensures { Wrote (rates_text litres) at out.old out.new result }
 {
-    let values = [
-        litres[0] as u64,
-        litres[1] as u64,
-        litres[2] as u64,
-        litres[3] as u64,
-        litres[4] as u64,
-        litres[5] as u64,
-        litres[6] as u64,
-        litres[7] as u64,
-        litres[8] as u64,
-    ];
+    let values = litres.map(|rate| rate as u64);
     put_line(out, at, b"rates", &values)
 }
 

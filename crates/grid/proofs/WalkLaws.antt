@@ -60,12 +60,6 @@ module _ (mask c : ℕ) where
   next_by_zeros h =
       omega (arith, failing_fewer (bits - c) bits ahead (omega arith), zeros_ahead)
 
-  pub next_at : c ≤ bits → c + count_trailing_zeros bits (mask / 2 ^ c) < bits → c + count_trailing_zeros bits (mask / 2 ^ c) ≡ next_set mask c
-  next_at h l = omega (arith, next_by_zeros h)
-
-  pub next_none : c ≤ bits → bits ≤ c + count_trailing_zeros bits (mask / 2 ^ c) → bits ≡ next_set mask c
-  next_none h l = omega (arith, next_by_zeros h)
-
   pub next_past : c ≡ bits → bits ≡ next_set mask c
   unfolding next_set
   next_past e = omega (arith, failing_le (bits - c) ahead)

@@ -47,14 +47,11 @@ pub fn marks_fine(shape: Shape, marks: &[u8]) -> bool
     requires { Marked shape marks.now }
     ensures { MarksJudged shape marks.now result }
 {
-    let squares = squares_of(shape);
-    let mut square = 0;
     let mut column = 0;
-    while square < squares {
+    for square in 0..squares_of(shape) {
         if !mark_fine(shape, marks, square, column) {
             return false;
         }
-        square += 1;
         column = next_column(shape, column);
     }
     true
@@ -84,13 +81,10 @@ pub fn inflow_squares_fine(shape: Shape, marks: &[u8], rows: &[u32]) -> bool
     requires { Marked shape marks.now }
     ensures { InflowSquaresJudged shape marks.now rows.now result }
 {
-    let count = rows.len() / INFLOW_WIDTH;
-    let mut j = 0;
-    while j < count {
+    for j in 0..rows.len() / INFLOW_WIDTH {
         if !inflow_square_fine(shape, marks, rows, j) {
             return false;
         }
-        j += 1;
     }
     true
 }

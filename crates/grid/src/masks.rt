@@ -28,10 +28,8 @@ pub fn row_mask(marks: &[u8], depths: &[u32], least: u32, first: usize, columns:
     ensures { RowMasked marks.now depths.now least first columns result }
 {
     let mut mask: u64 = 0;
-    let mut left = columns;
-    while 0 < left {
-        left -= 1;
-        mask = mask * 2 + wet_digit(marks, depths, least, first + left);
+    for column in (0..columns).rev() {
+        mask = mask * 2 + wet_digit(marks, depths, least, first + column);
     }
     mask
 }
@@ -41,13 +39,10 @@ pub fn mask_rows(shape: Shape, marks: &[u8], depths: &[u32], least: u32, rows: &
     requires { RowsLent shape marks.now depths.now rows.old }
     ensures { Masked shape marks.now depths.now least rows.new }
 {
-    let count = shape.rows;
     let columns = shape.columns;
-    let mut row = 0;
     let mut first = 0;
-    while row < count {
-        rows[row] = row_mask(marks, depths, least, first, columns);
-        row += 1;
+    for mask in rows.iter_mut() {
+        *mask = row_mask(marks, depths, least, first, columns);
         first += columns;
     }
 }
@@ -68,8 +63,5 @@ pub fn next_set(mask: u64, column: usize) -> usize
         return BITS;
     }
     let next = column + u64::trailing_zeros(mask >> column) as usize;
-    if next < BITS {
-        return next;
-    }
-    BITS
+    next.min(BITS)
 }

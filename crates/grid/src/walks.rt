@@ -20,11 +20,7 @@ pub fn next_within(mask: u64, column: usize, columns: usize) -> usize
     requires { (column ≤ columns) × (columns ≤ bits) }
     ensures { NextWithin mask column columns result }
 {
-    let next = next_set(mask, column);
-    if columns < next {
-        return columns;
-    }
-    next
+    next_set(mask, column).min(columns)
 }
 
 // The next set column after a column, or the number of columns where none comes before their end.
@@ -33,10 +29,7 @@ pub fn next_after(mask: u64, column: usize, columns: usize) -> usize
     ensures { NextWithin mask (column + 1) columns result }
 {
     let next = column + 1 + u64::trailing_zeros(mask >> column >> 1) as usize;
-    if columns < next {
-        return columns;
-    }
-    next
+    next.min(columns)
 }
 
 // The columns of a mask that a row with so many has.
@@ -80,11 +73,7 @@ fn row_below(rows: &[u64], row: usize) -> u64
     requires { row < length rows.now }
     ensures { result ≡ get_or rows.now (row + 1) 0 }
 {
-    let below = row + 1;
-    if below < rows.len() {
-        return rows[below];
-    }
-    0
+    rows.get(row + 1).copied().unwrap_or(0)
 }
 
 // The columns of a row that are set, or lie beside a set one of the row, of the row above or of the row below.

@@ -97,10 +97,6 @@ pub record Keeping (K steps newest : ℕ) (litres began₀ began : List ℕ) (sl
   pub long : length began ≡ length began₀
   pub rest : (left : ℕ) → left + step ≡ steps → rates_kept K left slot litres began ≡ rates_kept K steps newest litres began₀
 
-pub keeping-first : (K steps newest : ℕ) (litres began : List ℕ) → newest < K → Keeping K steps newest litres began began newest 0
-keeping-first K steps newest litres began h =
-    record { most = omega arith; slot_below = h; long = refl; rest = λ left e. ap (λ (n : ℕ). rates_kept K n newest litres began) (omega (arith, e)) }
-
 pub keeping_next : {K steps newest : ℕ} {litres began₀ began began' : List ℕ} {slot slot' step : ℕ} → Keeping K steps newest litres began₀ began slot step → step < steps →
     length litres ≡ most_hatches → K ≤ slots_in most_hatches (length began₀) → slot' ≡ slot_after K slot → began' ≡ stored_in most_hatches began slot' litres → Keeping K steps newest litres began₀ began' slot' (step + 1)
 unfolding rates_kept

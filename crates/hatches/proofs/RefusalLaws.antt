@@ -3,10 +3,9 @@
 use mathlib.Core.Path.{◌≡◌, sym, ap, ap₂, ◌∙◌}
 use mathlib.Core.Bool.{Bool, true}
 use mathlib.Core.List.{List, []}
-use Prim.Native.Nat.{ℕ, ◌+◌, ◌%◌, ◌≤◌, ◌<◌}
-use native.Mathlib.Nat.{mod-zero, mul-le-mul_right, suc-mul}
+use Prim.Native.Nat.{ℕ, ◌+◌, ◌≤◌}
 use native.Mathlib.Omega.{arith}
-use lib.Dec.{eqb, leb}
+use lib.Dec.{leb}
 use lib.ListN.{length, length-append}
 use borrow.Author.Tests.{leb-true, eqb-true}
 use Rattle.reckon.specs.Tests.{refusal}
@@ -14,8 +13,7 @@ use Rattle.reckon.specs.Ranges.{last_clock}
 use Rattle.reckon.specs.Tables.{inflow_kind, table_room}
 use Rattle.reckon.proofs.TestLaws.{every_each, refusal_passed}
 use Rattle.trials.specs.Ring.{slots_in}
-use Rattle.grid.specs.Squares.{ShapeInRange, squares, square_at}
-use Rattle.grid.specs.declared.squares.Shape.{Shape}
+use Rattle.grid.specs.Squares.{ShapeInRange, squares}
 use Rattle.grid.proofs.SquareLaws.{ranges_of_fine}
 use Rattle.rule.specs.declared.rules.Rules.{Rules}
 use Rattle.ledger.specs.Runs.{Plan, plan}
@@ -28,10 +26,6 @@ use Rattle.hatches.specs.Log.{Evening, most_hatches, is_named, hatch_rows, table
 use Rattle.hatches.specs.declared.lines.Entry.{Entry}
 use Rattle.hatches.specs.declared.lines.Entry.TheVariants.{Hatch, Rate, Back}
 use Rattle.hatches.specs.declared.log.Log.{Log}
-
--- a multiple of 0 is 0
-pub multiple_none : (clock : ℕ) {update : ℕ} → update ≡ 0 → eqb clock 0 ≡ eqb (clock % update) 0
-multiple_none clock e = ap (λ (n : ℕ). eqb n 0) (sym (ap (λ (u : ℕ). clock % u) e ∙ mod-zero clock))
 
 -- ---- what is lent
 
@@ -82,9 +76,6 @@ module _ (inflow : List ℕ) (log : Log) where
       sym (e ∙ ap (λ (n : ℕ). leb n (table_room inflow_kind)) z)
 
 -- ---- the square of a hatch
-
-pub square_inside : (s : Shape) (marks : List ℕ) {row column at : ℕ} → at ≡ square_at s row column → row < s.rows → column < s.columns → length marks ≡ squares s → at < length marks
-square_inside s marks {row} {column} e h k l = omega (arith, e, l, mul-le-mul_right s.columns h, suc-mul row s.columns)
 
 pub closed_at : (p : Plan) {at square : ℕ} {closed b : Bool} → at ≡ square → closed ≡ shut p at → closed ≡ b → shut p square ≡ b
 closed_at p e h k = ap (shut p) (sym e) ∙ (sym h ∙ k)

@@ -8,6 +8,9 @@ use native.Mathlib.Nat.{le_refl}
 use native.Mathlib.Numerals.{add-one}
 use native.Mathlib.Omega.{arith}
 use lib.ListN.{length, get_or, take, length-append}
+use Rattle.std.specs.List.{count_by}
+use Rattle.std.proofs.lemmas.List.{take_all}
+use Rattle.std.proofs.lemmas.List.Sums.{count_by_more_yes, count_by_more_no}
 use Rattle.reckon.specs.Tests.{pick}
 use Rattle.reckon.specs.Lists.{joined, placed}
 use Rattle.reckon.specs.Ranges.{last_clock}
@@ -28,27 +31,19 @@ unfoldable pub named_below : List Bool → ℕ → ℕ
 named_below named zero = 0
 named_below named (suc n) = named_below named n + pick (get_or named n false) 1 0
 
-pub named_none : (named : List Bool) → 0 ≡ named_below named 0
+-- the library's count, where the list is so long
+counted_to : (named : List Bool) (n : ℕ) → n ≤ length named → count_by (λ one. one) (take n named) ≡ named_below named n
 unfolding named_below
-named_none named = refl
-
-module _ (named : List Bool) (n : ℕ) {count : ℕ} (e : count ≡ named_below named n) where
-  pub named_more : get_or named n false ≡ true → count + 1 ≡ named_below named (n + 1)
-  unfolding named_below
-  named_more t = rw (add-one n, e, t) (ap (λ (k : ℕ). named_below named n + k) (sym (pick_true {A = ℕ} 1 0 refl)))
-
-  pub named_same : get_or named n false ≡ false → count ≡ named_below named (n + 1)
-  unfolding named_below
-  named_same t = rw (add-one n, e, t) (omega (arith, pick_false {A = ℕ} {b = false} 1 0 refl))
-
-pub named_few : (named : List Bool) (n : ℕ) → named_below named n ≤ n
-unfolding named_below pick
-named_few named zero = omega arith
-named_few named (suc n) = go (get_or named n false) (named_few named n)
+counted_to named zero h = refl
+counted_to named (suc n) h = ap (λ (k : ℕ). count_by (λ one. one) (take k named)) (sym (add-one n)) ∙ go (get_or named n false) refl (counted_to named n (omega arith))
   where
-    go : (b : Bool) → named_below named n ≤ n → named_below named n + pick b 1 0 ≤ suc n
-    go true h = omega arith
-    go false h = omega arith
+    go : (b : Bool) → get_or named n false ≡ b → count_by (λ one. one) (take n named) ≡ named_below named n →
+        count_by (λ one. one) (take (n + 1) named) ≡ named_below named n + pick b 1 0
+    go true e before = omega (arith, before, count_by_more_yes (λ one. one) named n false h e, pick_true {A = ℕ} {b = true} 1 0 refl)
+    go false e before = omega (arith, before, count_by_more_no (λ one. one) named n false h e, pick_false {A = ℕ} {b = false} 1 0 refl)
+
+pub counted : (named : List Bool) → length named ≡ most_hatches → count_by (λ one. one) named ≡ named_below named most_hatches
+counted named nine = ap (count_by (λ one. one)) (sym (take_all most_hatches named (omega (arith, nine)))) ∙ counted_to named most_hatches (omega (arith, nine))
 
 -- ---- how long their rows are
 

@@ -1,3 +1,4 @@
 pub mod Determined
 pub mod Judged
+pub mod Lines
 pub mod Rates

@@ -1,10 +1,10 @@
 -- Document 02, #107, "The hatch log": the kinds of line of a log, each with its fields in their order.
 -- Assumes nothing.
-use Rattle.std.specs.Prelude.{◌≡◌, List, [], ◌∷◌, ℕ, get_or}
+use Rattle.std.specs.Prelude.{◌≡◌, List, [], ◌∷◌, ℕ, get_or, Some, None}
 use Rattle.text.specs.Reading.{Reading, number_at, with_number, before, read_rest, read_line}
 use Rattle.text.specs.Reading.Reading.{read, unread}
 use Rattle.hatches.specs.declared.lines.Entry.{Entry}
-use Rattle.hatches.specs.declared.lines.Entry.TheVariants.{Hatch, Rate, Back, Unread}
+use Rattle.hatches.specs.declared.lines.Entry.TheVariants.{Hatch, Rate, Back}
 use Rattle.hatches.specs.declared.lines.LogLine.{LogLine}
 
 -- the words that lines begin with
@@ -40,12 +40,12 @@ as_rate vs = Rate (get_or vs 0 0) (get_or vs 1 0) (get_or vs 2 0)
 
 -- what a reading says, or else another line
 abbrev pub entry_from : Reading → (List ℕ → Entry) → LogLine → LogLine
-entry_from (read vs q) make other = record { entry = make vs; next = q }
+entry_from (read vs q) make other = record { entry = Some (make vs); next = q }
 entry_from unread make other = other
 
 -- "a log line that can't be read": it ends the log
 abbrev pub unread_at : ℕ → LogLine
-unread_at p = record { entry = Unread; next = p }
+unread_at p = record { entry = None; next = p }
 
 -- the line at p, and where the next one starts
 unfoldable pub log_line : List ℕ → ℕ → LogLine

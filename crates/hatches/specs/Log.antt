@@ -1,7 +1,7 @@
 -- Document 02, #107, "The hatch log": what a log's lines change, and when a line is refused.
 -- Assumes nothing.
-use Rattle.std.specs.Prelude.{◌≡◌, Bool, true, false, not, List, [], ◌∷◌, ◌++◌, ℕ, zero, suc, ◌+◌, ◌-◌, ◌/◌, ◌%◌, min, eqb, leb, ltb, length, get_or, set, replicate}
-use Rattle.reckon.specs.Tests.{pick, every, Row, ◌unless◌}
+use Rattle.std.specs.Prelude.{◌≡◌, Bool, true, false, not, List, [], ◌∷◌, ◌++◌, ℕ, zero, suc, ◌+◌, ◌-◌, ◌/◌, ◌%◌, min, eqb, leb, ltb, length, get_or, set, replicate, Option, Some, None}
+use Rattle.reckon.specs.Tests.{pick, every, Row, ◌unless◌, refusal}
 use Rattle.reckon.specs.Lists.{joined}
 use Rattle.reckon.specs.Ranges.{last_clock, most_litres}
 use Rattle.reckon.specs.Tables.{inflow_kind, table_room}
@@ -18,7 +18,7 @@ use Rattle.ledger.specs.declared.runs.Run.{Run}
 use Rattle.checks.specs.Given.{Given}
 use Rattle.programs.specs.Program.{program_squares}
 use Rattle.hatches.specs.declared.lines.Entry.{Entry}
-use Rattle.hatches.specs.declared.lines.Entry.TheVariants.{Hatch, Rate, Back, Unread}
+use Rattle.hatches.specs.declared.lines.Entry.TheVariants.{Hatch, Rate, Back}
 use Rattle.hatches.specs.declared.log.Hatches.{Hatches}
 use Rattle.hatches.specs.declared.log.Log.{Log}
 
@@ -99,7 +99,6 @@ line_fine r log (Hatch n row column) = every (log.opening ∷ is_number n ∷ no
 line_fine r log (Rate clock n litres) =
     every (is_named log.hatches n ∷ eqb (clock % r.update) 0 ∷ leb clock last_clock ∷ leb log.run.clock clock ∷ [])
 line_fine r log (Back count) = true
-line_fine r log Unread = false
 
 -- 1, of what is lent: document 01's "shape .. out of range, a slice not one number a square", `meadow`'s squares, and a room of rates with
 -- fewer slots than the record room
@@ -125,7 +124,6 @@ draw_fine p inflow log (Hatch n row column) =
 draw_fine p inflow log (Rate clock n litres) =
     every (leb litres most_litres ∷ leb (length (table_with inflow log.hatches log.litres)) (table_room inflow_kind) ∷ [])
 draw_fine p inflow log (Back count) = true
-draw_fine p inflow log Unread = true
 
 -- 6, of the log's value: as many steps stand as are kept, and each took a ms or more
 unfoldable pub standing_fine : Log → Bool
@@ -136,7 +134,6 @@ unfoldable pub kept_fine : Log → Entry → Bool
 kept_fine log (Back count) = leb count log.run.kept
 kept_fine log (Hatch n row column) = true
 kept_fine log (Rate clock n litres) = true
-kept_fine log Unread = true
 
 -- "Each line is checked, 12 first, before its steps are made": then what is lent and the line's own, in document 01's order
 unfoldable pub entry_refusals : Plan → Given → Evening → Entry → List Row
@@ -147,6 +144,11 @@ entry_refusals p g e entry =
     ∷ 6 unless standing_fine e.log
     ∷ 10 unless kept_fine e.log entry
     ∷ []
+
+-- the number that a line is refused with: "a log line that can't be read" is 12
+abbrev pub line_refusal : Plan → Given → Evening → Option Entry → ℕ
+line_refusal p g e (Some entry) = refusal (entry_refusals p g e entry)
+line_refusal p g e None = 12
 
 -- ---- a log after a line
 

@@ -16,16 +16,7 @@ use reckon::tables::{INFLOW_ROOM, INFLOW_WIDTH};
 pub(crate) fn count_named(hatches: Hatches) -> usize
     ensures { ((litres : List ℕ) → length (hatch_rows hatches litres) ≡ result * inflow_kind.width) × (result ≤ most_hatches) }
 {
-    let named = hatches.named;
-    let mut count: usize = 0;
-    let mut hatch: usize = 0;
-    while hatch < MOST_HATCHES {
-        if named[hatch] {
-            count += 1;
-        }
-        hatch += 1;
-    }
-    count
+    hatches.named.iter().filter(|named| **named).count()
 }
 
 // One hatch's row into a table at a place, none where it is not named; the place after it.
@@ -56,10 +47,8 @@ fn put_rows(hatches: Hatches, litres: [u32; 9], table: &mut [u32], at: usize) ->
     ensures { Wrote (hatch_rows hatches litres) at table.old table.new result }
 {
     let mut next = at;
-    let mut hatch: usize = 0;
-    while hatch < MOST_HATCHES {
+    for hatch in 0..MOST_HATCHES {
         next = put_row(hatches, litres, hatch, table, next);
-        hatch += 1;
     }
     next
 }
@@ -93,11 +82,9 @@ fn keep_rates(litres: &[u32; 9], slots: usize, newest: usize, steps: u64, began:
     ensures { began.new ≡ rates_kept slots steps newest litres.now began.old }
 {
     let mut slot = newest;
-    let mut step: u64 = 0;
-    while step < steps {
+    for _ in 0..steps {
         slot = trials::slot_after(slots, slot);
         keep_one(litres, slot, began);
-        step += 1;
     }
 }
 
@@ -118,10 +105,8 @@ pub fn slot_ago(slots: usize, newest: usize, places: u64) -> usize
     ensures { result ≡ slot_ago slots newest places }
 {
     let mut slot = newest;
-    let mut back: u64 = 0;
-    while back < places {
+    for _ in 0..places {
         slot = trials::slot_before(slots, slot);
-        back += 1;
     }
     slot
 }

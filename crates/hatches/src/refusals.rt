@@ -72,7 +72,6 @@ fn line_fine(entry: Entry, log: Log, rules: Rules) -> bool
         Entry::Hatch(number, row, column) => hatch_line_fine(log, number),
         Entry::Rate(clock, number, litres) => rate_line_fine(log, clock, number, rules),
         Entry::Back(count) => true,
-        Entry::Unread => false,
     }
 }
 
@@ -154,7 +153,6 @@ fn draw_fine(entry: Entry, log: Log, shape: Shape, marks: &[u8], inflow: &[u32])
         ),
         Entry::Rate(clock, number, litres) => rate_draw_fine(log, litres, inflow),
         Entry::Back(count) => true,
-        Entry::Unread => true,
     }
 }
 
@@ -178,13 +176,44 @@ fn kept_fine(entry: Entry, log: Log) -> bool
         Entry::Hatch(number, row, column) => true,
         Entry::Rate(clock, number, litres) => true,
         Entry::Back(count) => count as usize <= run.kept,
-        Entry::Unread => true,
     }
 }
 
-// The number that a line is refused with before its steps, 0 for none.
+// The number that what a line says is refused with before its steps, 0 for none.
+fn said_number(
+    said: Entry,
+    log: Log,
+    shape: Shape,
+    rules: Rules,
+    marks: &[u8],
+    inflow: &[u32],
+    depths: &[u32],
+    records: &[u32],
+    began: &[u32],
+) -> u32
+    ensures { EntryJudged (plan shape marks.now) rules inflow.now depths.now records.now began.now log (Some said) result }
+{
+    if !line_fine(said, log, rules) {
+        return 12;
+    }
+    if !lent_fine(shape, marks, depths, records, began) {
+        return 1;
+    }
+    if !draw_fine(said, log, shape, marks, inflow) {
+        return 4;
+    }
+    if !standing_fine(log) {
+        return 6;
+    }
+    if !kept_fine(said, log) {
+        return 10;
+    }
+    0
+}
+
+// The number that a line is refused with before its steps, 0 for none: 12 for one that cannot be read.
 pub fn entry_number(
-    entry: Entry,
+    entry: Option<Entry>,
     log: Log,
     shape: Shape,
     rules: Rules,
@@ -196,20 +225,10 @@ pub fn entry_number(
 ) -> u32
     ensures { EntryJudged (plan shape marks.now) rules inflow.now depths.now records.now began.now log entry result }
 {
-    if !line_fine(entry, log, rules) {
+    let Some(said) = entry else {
         return 12;
-    }
-    if !lent_fine(shape, marks, depths, records, began) {
-        return 1;
-    }
-    if !draw_fine(entry, log, shape, marks, inflow) {
-        return 4;
-    }
-    if !standing_fine(log) {
-        return 6;
-    }
-    if !kept_fine(entry, log) {
-        return 10;
-    }
-    0
+    };
+    said_number(
+        said, log, shape, rules, marks, inflow, depths, records, began,
+    )
 }

@@ -2,18 +2,17 @@
 -- Assumes nothing.
 use mathlib.Core.Path.{◌≡◌, refl, sym, ap, ap₂, subst, ◌∙◌}
 use mathlib.Core.Bool.{Bool, true, false, not, ◌&&◌, ◌||◌}
-use mathlib.Core.List.{List, ◌++◌, append-nil}
+use mathlib.Core.List.{List}
 use Prim.Native.Nat.{ℕ, zero, suc, ◌+◌, ◌-◌, ◌≤◌, ◌<◌, min}
 use native.Mathlib.Nat.{add-zero, add-suc}
 use native.Mathlib.Omega.{arith}
 use lib.Dec.{eqb, leb}
-use lib.ListN.{length, get_or, set, drop_of_length-le}
-use lib.Seq.{ext_get_or}
-use borrow.Author.Tests.{eq-eqb, ne_eqb, eqb-true, le-ltb, lt-ltb, le-leb, lt-leb}
-use Rattle.reckon.specs.Tests.{pick, all_below}
-use Rattle.reckon.specs.Lists.{tabulate, filled, placed}
-use Rattle.reckon.proofs.TestLaws.{not_both, pick_true, pick_false, and_both, and_false, all_at, failing_at, failing_none}
-use Rattle.reckon.proofs.ListLaws.{length-tabulate, is_tabulate, length-filled, filled_in, filled_past, filled_skipped, filled_store, filled_keep, is_filled}
+use lib.ListN.{length, get_or, set}
+use borrow.Author.Tests.{eq-eqb, ne_eqb, le-ltb, lt-ltb, le-leb, lt-leb}
+use Rattle.reckon.specs.Tests.{pick}
+use Rattle.reckon.specs.Lists.{tabulate, filled}
+use Rattle.reckon.proofs.TestLaws.{not_both, pick_true, pick_false, and_both, and_false, failing_at, failing_none}
+use Rattle.reckon.proofs.ListLaws.{is_tabulate, length-filled, filled_in, filled_past, filled_skipped, filled_store, filled_keep, is_filled}
 use Rattle.grid.specs.Squares.{squares, within, beside, north, east, south, west}
 use Rattle.grid.specs.Marks.{closed}
 use Rattle.grid.specs.declared.squares.Shape.{Shape}
@@ -158,10 +157,6 @@ module _ (shape : Shape) (marks beds : List ℕ) (seen : BedsSeen shape marks be
   going_long {old} {r} g =
       (ap length g.beds_are ∙ long shape marks beds seen r, ap length g.turns_are ∙ length-filled size _ (round_filling shape marks beds) old)
 
-  pub round_long : (l : List ℕ) → length (round_of shape marks l) ≡ squares shape
-  unfolding round_of
-  round_long l = length-tabulate (squares shape) _
-
   -- a square after one round more
   turn_more :
       (t : ℕ) → suc t ≤ size → (old turns : List ℕ) → turns ≡ filled size (λ i. eqb (height t i) (height 0 i)) (round_filling shape marks beds) old →
@@ -225,12 +220,7 @@ module _ (shape : Shape) (marks beds : List ℕ) (seen : BedsSeen shape marks be
     suc_t : suc t ≡ turn
     suc_t = omega arith
 
-    -- the beds before a round, copied, and those after it
-    pub copied : (room : List ℕ) {before : List ℕ} → length room ≡ size → before ≡ placed room 0 now → before ≡ now
-    unfolding placed
-    copied room {before} l e =
-        e ∙ (ap (λ (r : List ℕ). now ++ r) (drop_of_length-le room {i = length now} (omega (arith, l, (going_long g).0))) ∙ append-nil now)
-
+    -- the beds before a round, and those after it
     module _ {before after : List ℕ} (b : before ≡ now) (r : after ≡ round_of shape marks before) where
       after_is : after ≡ after_rounds shape marks beds (suc t)
       unfolding after_rounds
@@ -262,14 +252,9 @@ module _ (shape : Shape) (marks beds : List ℕ) (seen : BedsSeen shape marks be
               ∙ ap (λ (k : ℕ). filled size (λ i. eqb (get_or u i 0) (get_or v i 0)) (λ i. k) turns) s))
 
       -- a round that fills nothing is the last
-      pub going_still : true ≡ all_below (length before) (λ i. eqb (get_or after i 0) (get_or before i 0)) → RoundsMade shape marks beds after old turns
+      pub going_still : after ≡ before → RoundsMade shape marks beds after old turns
       unfolding filled_beds after_rounds
-      going_still e =
-          let long_is : length before ≡ size = ap length b ∙ (going_long g).0 in
-          let long_after : length after ≡ size = ap length after_is ∙ long shape marks beds seen (suc t) in
-          let same : after ≡ before =
-          ext_get_or 0 after before (long_after ∙ sym long_is)
-          (λ i l. eqb-true _ _ (all_at (length before) (λ i. eqb (get_or after i 0) (get_or before i 0)) (sym e) i (omega (arith, l, long_is, long_after)))) in
+      going_still same =
           let kept : after ≡ after_rounds shape marks beds t = same ∙ (b ∙ g.beds_are) in
           record {
             beds_are = kept ∙ sym (settled shape marks beds seen t size (omega arith) (sym after_is ∙ kept));

@@ -26,38 +26,40 @@ use Rattle.text.proofs.LineLaws.{plain_cons, plain_both, plain_fields, line_add}
 use Rattle.text.proofs.EndLaws.{next-within, start-within}
 use Rattle.sheet.specs.Lines.{cell_word, letter_of, line_head}
 use Rattle.sheet.specs.Sheet.{shape_of, cells_at}
+use Rattle.std.proofs.Common.{Option, is_some}
+use Rattle.sheet.specs.Sheet.{grid_or}
 use Rattle.sheet.specs.declared.lines.GridLine.{GridLine}
 use Rattle.programs.specs.Program.{program_squares}
 use Rattle.holes.specs.Holes.{question, between, up_to_bed, hole_at, bed_at, line_with, looked_in, looked_at, start_of, is_hole, with_beds}
 
 -- ---- how many squares' lines are looked at
 
-module _ (top : GridLine) where
+module _ (top : Option GridLine) where
   abbrev tests : List Bool
-  tests = top.found ∷ shape_fine top.shape ∷ leb (squares top.shape) program_squares ∷ []
+  tests = is_some top ∷ shape_fine (grid_or top).shape ∷ leb (squares (grid_or top).shape) program_squares ∷ []
 
-  pub looked_unfound : top.found ≡ false → 0 ≡ looked_in top
+  pub looked_unfound : is_some top ≡ false → 0 ≡ looked_in top
   unfolding looked_in
   looked_unfound e = sym (pick_false _ _ (every_fails tests 0 e))
 
-  pub looked_unfine : shape_fine top.shape ≡ false → 0 ≡ looked_in top
+  pub looked_unfine : shape_fine (grid_or top).shape ≡ false → 0 ≡ looked_in top
   unfolding looked_in
   looked_unfine e = sym (pick_false _ _ (every_fails tests 1 e))
 
-  pub looked_many : program_squares < squares top.shape → 0 ≡ looked_in top
+  pub looked_many : program_squares < squares (grid_or top).shape → 0 ≡ looked_in top
   unfolding looked_in
-  looked_many h = sym (pick_false _ _ (every_fails tests 2 (lt-leb (squares top.shape) program_squares h)))
+  looked_many h = sym (pick_false _ _ (every_fails tests 2 (lt-leb (squares (grid_or top).shape) program_squares h)))
 
-  pub looked_all : top.found ≡ true → shape_fine top.shape ≡ true → squares top.shape ≤ program_squares → squares top.shape ≡ looked_in top
+  pub looked_all : is_some top ≡ true → shape_fine (grid_or top).shape ≡ true → squares (grid_or top).shape ≤ program_squares → squares (grid_or top).shape ≡ looked_in top
   unfolding looked_in
-  looked_all e f h = sym (pick_true _ _ (each_every tests (e, (f, (le-leb (squares top.shape) program_squares h, tt)))))
+  looked_all e f h = sym (pick_true _ _ (each_every tests (e, (f, (le-leb (squares (grid_or top).shape) program_squares h, tt)))))
 
   -- where there are any, they are all, and the grid is in range
   pub record LookedFine : Type 0 where
-    pub found : top.found ≡ true
-    pub shape : ShapeInRange top.shape
-    pub all : looked_in top ≡ squares top.shape
-    pub few : squares top.shape ≤ program_squares
+    pub found : is_some top ≡ true
+    pub shape : ShapeInRange (grid_or top).shape
+    pub all : looked_in top ≡ squares (grid_or top).shape
+    pub few : squares (grid_or top).shape ≤ program_squares
 
   pub looked_some : {i : ℕ} → i < looked_in top → LookedFine
   unfolding looked_in
@@ -65,14 +67,14 @@ module _ (top : GridLine) where
       by_test (every tests)
       (λ e.
       let t = every_each tests e in
-      record { found = t.0; shape = ranges_of_fine top.shape t.1.0; all = pick_true _ _ e; few = leb-true _ _ t.1.1.0 })
-      (λ e. absurd (omega (arith, h, pick_false (squares top.shape) 0 e)))
+      record { found = t.0; shape = ranges_of_fine (grid_or top).shape t.1.0; all = pick_true _ _ e; few = leb-true _ _ t.1.1.0 })
+      (λ e. absurd (omega (arith, h, pick_false (squares (grid_or top).shape) 0 e)))
 
   pub looked_few : looked_in top ≤ program_squares
   unfolding looked_in
   looked_few =
-      by_test (every tests) (λ e. omega (arith, pick_true (squares top.shape) 0 e, leb-true (squares top.shape) program_squares (every_each tests e).1.1.0))
-      (λ e. omega (arith, pick_false (squares top.shape) 0 e))
+      by_test (every tests) (λ e. omega (arith, pick_true (squares (grid_or top).shape) 0 e, leb-true (squares (grid_or top).shape) program_squares (every_each tests e).1.1.0))
+      (λ e. omega (arith, pick_false (squares (grid_or top).shape) 0 e))
 
 -- ---- parts of a text
 

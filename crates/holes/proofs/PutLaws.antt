@@ -17,14 +17,14 @@ use Rattle.text.specs.Writing.{decimal, field_text, fields_text, rest_text, Wrot
 use Rattle.text.proofs.ReadingLaws.{by_test, word_within}
 use Rattle.text.proofs.StandLaws.{stands_word, stands_both, stands_first, stands_second, word_stands}
 use Rattle.text.proofs.WritingLaws.{Left, left_all, left_fits, left_step, left_none, written_as, placed_none, wrote_length, wrote_both, fields_text_short}
-use Rattle.sheet.specs.Lines.{cell_word, letter_of, line_head}
-use Rattle.sheet.specs.Sheet.{line_one, cells_at}
+use Rattle.sheet.specs.Lines.{grid_line, cell_word, letter_of, line_head}
+use Rattle.sheet.specs.Sheet.{cells_at}
 use Rattle.sheet.proofs.JudgeLaws.{take_put}
 use Rattle.holes.specs.Rounds.{no_bed}
 use Rattle.holes.specs.Holes.{question, between, up_to_bed, hole_at, bed_at, line_with, looked_at, start_of, is_hole, with_beds}
 use Rattle.holes.specs.Repaired.{bed_text, given_text, hole_text}
 use Rattle.holes.specs.Inner.Steps.{place_text, hole_in, Looked, line_put, beds_put, cells_put, listed_line}
-use Rattle.holes.specs.declared.holes.Hole.TheVariants.{At, None}
+use Rattle.std.proofs.Common.{Some, None}
 use Rattle.holes.proofs.HoleLaws.{looked_some, start-in}
 
 -- ---- a text that is three texts, one after the other
@@ -142,9 +142,9 @@ module _ (s : List ℕ) (p row column : ℕ) where
   unfolding hole_in
   none_in e = sym (pick_false _ _ e)
 
-  some_in : hole_at s p row column ≡ true → At (after + 2) ≡ hole_in s p row column
+  some_in : hole_at s p row column ≡ true → Some (after + 2) ≡ hole_in s p row column
   unfolding hole_in
-  some_in e = ap At bed_is ∙ sym (pick_true _ _ e)
+  some_in e = ap Some bed_is ∙ sym (pick_true _ _ e)
 
   pub hole_unplaced : word_at s p (place_text row column) ≡ false → None ≡ hole_in s p row column
   unfolding hole_at
@@ -164,16 +164,16 @@ module _ (s : List ℕ) (p row column : ℕ) where
       at-end : (word : List ℕ) → word_at s after word ≡ word_at s q word
       at-end word = ap (λ (k : ℕ). word_at s k word) (sym z)
 
-      found_at : hole_at s p row column ≡ true → At (q + 2) ≡ hole_in s p row column
-      found_at e = ap (λ (k : ℕ). At (k + 2)) z ∙ some_in e
+      found_at : hole_at s p row column ≡ true → Some (q + 2) ≡ hole_in s p row column
+      found_at e = ap (λ (k : ℕ). Some (k + 2)) z ∙ some_in e
 
-      pub hole_open : word_at s q o_hole ≡ true → At (q + 2) ≡ hole_in s p row column
+      pub hole_open : word_at s q o_hole ≡ true → Some (q + 2) ≡ hole_in s p row column
       unfolding hole_at
       hole_open o =
           found_at (ap (λ (b : Bool). b || word_at s p (up_to_bed s p row column 2 ++ (question ∷ tab ∷ []))) (o_at ∙ (at-end o_hole ∙ o)))
 
       module _ (o : word_at s q o_hole ≡ false) where
-        pub hole_exit : word_at s q e_hole ≡ true → At (q + 2) ≡ hole_in s p row column
+        pub hole_exit : word_at s q e_hole ≡ true → Some (q + 2) ≡ hole_in s p row column
         unfolding hole_at
         hole_exit x = found_at (ap₂ ◌||◌ (o_at ∙ (at-end o_hole ∙ o)) (e_at ∙ (at-end e_hole ∙ x)))
 
@@ -186,18 +186,18 @@ module _ (s : List ℕ) (p row column : ℕ) where
   unfolding hole_in
   told_none e = no_more (hole_at s p row column) (λ t. never (e ∙ pick_true _ _ t))
     where
-      never : {k : ℕ} → None ≡ At k → ⊥
+      never : {k : ℕ} → None ≡ Some k → ⊥
       never q = let z : ◌≡◌ {A = ℕ} 0 1 = cc in omega arith
 
-  pub told_at : {spot : ℕ} → At spot ≡ hole_in s p row column → (hole_at s p row column ≡ true) × (spot ≡ bed_at s p row column)
+  pub told_at : {spot : ℕ} → Some spot ≡ hole_in s p row column → (hole_at s p row column ≡ true) × (spot ≡ bed_at s p row column)
   unfolding hole_in
   told_at {spot} e =
       by_test (hole_at s p row column) (λ t. (t, same (e ∙ pick_true _ _ t))) (λ t. never (e ∙ pick_false _ _ t))
     where
-      same : {j k : ℕ} → At j ≡ At k → j ≡ k
+      same : {j k : ℕ} → Some j ≡ Some k → j ≡ k
       same q = cc
 
-      never : {A : Type 0} {k : ℕ} → At k ≡ None → A
+      never : {A : Type 0} {k : ℕ} → Some k ≡ None → A
       never q = absurd (let z : ◌≡◌ {A = ℕ} 0 1 = cc in omega arith)
 
 -- ---- a bed
@@ -274,7 +274,7 @@ module _ (s : List ℕ) (p row column bed turn : ℕ) where
 module _ {s : List ℕ} {columns n : ℕ} (look : Looked s columns n) where
   pub columns_some : {i : ℕ} → i < n → 0 < columns
   columns_some {i} l =
-      let f = looked_some (line_one s) {i = i} (omega (arith, l, look.squares_are)) in
+      let f = looked_some (grid_line s) {i = i} (omega (arith, l, look.squares_are)) in
       omega (arith, f.shape.columns_low, look.columns_are)
 
   module _ (i : ℕ) {start : ℕ} (at-line : start ≡ start_of s i) where

@@ -10,13 +10,13 @@ use lib.ListN.{length, get_or, take, drop, replicate, length-replicate}
 use lib.Seq.{take-add, take-append_seam}
 use Rattle.reckon.specs.Lists.{joined}
 use Rattle.reckon.specs.Ranges.{most_bed}
-use Rattle.reckon.proofs.TestLaws.{every_each}
+use Rattle.reckon.proofs.TestLaws.{not_both, every_each}
 use Rattle.reckon.proofs.ListLaws.{length-filled}
 use Rattle.grid.specs.Squares.{ShapeInRange, squares, shape_fine}
 use Rattle.grid.specs.Marks.{closed}
 use Rattle.grid.specs.declared.squares.Shape.{Shape}
 use Rattle.checks.proofs.CheckLaws.{ready, run_checks_step}
-use Rattle.text.specs.Reading.{read_line, line_of, next_line, line_from, as_fields}
+use Rattle.text.specs.Reading.{read_line, line_of, next_line, line_from, as_fields, LineOf}
 use Rattle.text.specs.Reading as Reading
 use Rattle.text.specs.Writing.{line_text}
 use Rattle.text.specs.Inner.Standing.{StandsAt}
@@ -25,7 +25,8 @@ use Rattle.text.proofs.ReadingLaws.{by_lt}
 use Rattle.text.proofs.StandLaws.{front_stands}
 use Rattle.text.proofs.RoundTrip.{line_found, line-back}
 use Rattle.sheet.specs.Lines.{grid_word, grid_fields, as_grid, grid_line}
-use Rattle.sheet.specs.Sheet.{rooms_fine, line_one, line_two, shape_of, cells_at, cells_filled, said, checks_in, checks_of, heading_of, sheet_of}
+use Rattle.std.proofs.Common.{Option, Some, None, is_some, option_map}
+use Rattle.sheet.specs.Sheet.{grid_or, has_one, rooms_fine, line_one, line_two, shape_of, cells_at, cells_filled, said, checks_in, checks_of, heading_of, sheet_of}
 use Rattle.sheet.specs.declared.lines.GridLine.{GridLine}
 use Rattle.sheet.specs.declared.reading.Heading.{Heading}
 use Rattle.sheet.specs.declared.reading.Sheet.TheVariants.{Read}
@@ -60,23 +61,27 @@ module _ (s : List ℕ) (f : ℕ → List ℕ) where
   unfolding line_from
   second_later = next_forth s (next_line s 0)
 
-  found_stays : (line_one s).found ≡ true → line_one (with_beds s f) ≡ line_one s
-  unfolding grid_line as_grid
-  found_stays t =
-      let line : Fields = line_of s 0 grid_word grid_fields in
-      let vs : List ℕ = take grid_fields line.values in
-      let a = line_found s 0 grid_fields (omega arith) t grid_word refl in
-      let next : next_line s 0 ≡ line.next = lined_next (row_lined s 0 grid_word grid_fields (omega arith) plain-grid refl t) in
-      let here = line-back grid_word vs a.stands a.readable in
-      let there = line-back grid_word vs (first_stands (line_text grid_word vs) a.stands (omega (arith, next, second_later))) a.readable in
-      let same : read_line (with_beds s f) 0 grid_word grid_fields ≡ read_line s 0 grid_word grid_fields =
-      ap (read_line (with_beds s f) 0 grid_word) (sym a.many) ∙ (there ∙ (sym here ∙ ap (read_line s 0 grid_word) a.many)) in
-      ap (λ (r : Reading.Reading). as_grid (as_fields 0 r)) same
+  found_stays : has_one s ≡ true → grid_line (with_beds s f) ≡ grid_line s
+  unfolding grid_line
+  found_stays t = go (line_of s 0 grid_word grid_fields) refl t
+    where
+      go : (g : Option Fields) → LineOf s 0 grid_word grid_fields g → is_some (option_map as_grid g) ≡ true →
+          option_map as_grid (line_of (with_beds s f) 0 grid_word grid_fields) ≡ option_map as_grid (line_of s 0 grid_word grid_fields)
+      go None e t = not_both t refl
+      go (Some line) e t =
+          let vs : List ℕ = take grid_fields line.values in
+          let a = line_found s 0 grid_fields (omega arith) grid_word e in
+          let next : next_line s 0 ≡ line.next = lined_next (row_lined s 0 grid_word grid_fields (omega arith) plain-grid e) in
+          let here = line-back grid_word vs a.stands a.readable in
+          let there = line-back grid_word vs (first_stands (line_text grid_word vs) a.stands (omega (arith, next, second_later))) a.readable in
+          let same : read_line (with_beds s f) 0 grid_word grid_fields ≡ read_line s 0 grid_word grid_fields =
+          ap (read_line (with_beds s f) 0 grid_word) (sym a.many) ∙ (there ∙ (sym here ∙ ap (read_line s 0 grid_word) a.many)) in
+          ap (λ (r : Reading.Reading). option_map as_grid (as_fields r)) same
 
-  pub line_one_stays : line_one (with_beds s f) ≡ line_one s
+  pub line_one_stays : grid_line (with_beds s f) ≡ grid_line s
   line_one_stays =
-      by_lt 0 (looked_at s) (λ l. found_stays (looked_some (line_one s) {i = 0} l).found)
-      (λ l. ap line_one (kept s f (λ i h. absurd (omega (arith, h, l)))))
+      by_lt 0 (looked_at s) (λ l. found_stays (looked_some (grid_line s) {i = 0} l).found)
+      (λ l. ap grid_line (kept s f (λ i h. absurd (omega (arith, h, l)))))
 
 -- ---- a text that reads well with `0` for each `?`
 
@@ -84,11 +89,11 @@ module _ (s : List ℕ) {h : Heading} (e : Read h ≡ sheet_of (plugged s) progr
   is_well : Well (plugged s) program_rooms h
   is_well = well (plugged s) program_rooms h e
 
-  same_one : line_one (plugged s) ≡ line_one s
+  same_one : grid_line (plugged s) ≡ grid_line s
   same_one = line_one_stays s (λ i. 48 ∷ [])
 
   pub same_shape : shape_of (plugged s) ≡ shape_of s
-  same_shape = ap (λ (g : GridLine). g.shape) same_one
+  same_shape = ap (λ (g : Option GridLine). (grid_or g).shape) same_one
 
   pub heading-shape : h.shape ≡ shape_of s
   unfolding heading_of
@@ -110,7 +115,7 @@ module _ (s : List ℕ) {h : Heading} (e : Read h ≡ sheet_of (plugged s) progr
   pub all_looked : looked_at s ≡ squares (shape_of s)
   all_looked =
       sym
-      (looked_all (line_one s) (subst (λ (g : GridLine). g.found ≡ true) same_one is_well.first_line) fine-shape few_squares)
+      (looked_all (grid_line s) (subst (λ (g : Option GridLine). is_some g ≡ true) same_one is_well.first_line) fine-shape few_squares)
 
   pub in_range : ShapeInRange (shape_of s)
   in_range =

@@ -21,7 +21,8 @@ use Rattle.text.specs.Writing.{decimal, field_text, fields_text, Wrote}
 use Rattle.text.proofs.ReadingLaws.{by_test, by_lt}
 use Rattle.text.proofs.WritingLaws.{decimal_small, decimal-short, fields_text_short, written_as}
 use Rattle.text.proofs.JoinedLaws.{joined-short}
-use Rattle.sheet.specs.Sheet.{line_one, shape_of}
+use Rattle.sheet.specs.Lines.{grid_line}
+use Rattle.sheet.specs.Sheet.{shape_of}
 use Rattle.holes.specs.Rounds.{no_bed, filled_beds, round_filling, BedsSeen}
 use Rattle.holes.specs.Holes.{hole_at, looked_at, start_of, is_hole, with_beds, plugged}
 use Rattle.holes.specs.Repaired.{bed_text, given_text, hole_text, seen_in, beds_in, list_line, repaired_with, most_repaired}
@@ -185,7 +186,7 @@ module _ (s marks beds : List ℕ) where
 
       pub list-short : ((i : ℕ) → get_or after i 0 < 2 ^ 32) → length (listed s after turns) ≤ line_most * looked_at s
       list-short words =
-          let few = looked_few (line_one s) in
+          let few = looked_few (grid_line s) in
           subst (λ (t : List ℕ). length t ≤ line_most * looked_at s) (sym list_same)
           (joined-short (looked_at s) line_most (list_line s marks beds)
           (λ i l.

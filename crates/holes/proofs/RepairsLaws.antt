@@ -7,6 +7,7 @@ use mathlib.Core.List.{List, [], ◌∷◌, ◌++◌, append_assoc, append-nil}
 use Prim.Native.Nat.{ℕ, zero, suc, ◌+◌, ◌/◌, ◌%◌, ◌≤◌, ◌<◌}
 use native.Mathlib.Nat.{not-suc-le-zero}
 use native.Mathlib.Omega.{arith}
+use Rattle.std.proofs.Common.{is_some}
 use lib.Dec.{eqb}
 use lib.ListN.{length, get_or, drop, length-append}
 use borrow.Author.Tests.{le-leb, lt-leb}
@@ -21,7 +22,8 @@ use Rattle.text.proofs.RoundTrip.{front_after}
 use Rattle.text.proofs.StandLaws.{stands_first, stands_second, byte_stands}
 use Rattle.text.proofs.WritingLaws.{decimal_small, decimal_large}
 use Rattle.sheet.specs.Lines.{line_head, cell_line}
-use Rattle.sheet.specs.Sheet.{Rooms, rooms_fine, cell_from, line_one, line_two, shape_of, cells_at, cells_read, bad_line, checks_of, heading_of, judged, sheet_of}
+use Rattle.sheet.specs.Lines.{grid_line}
+use Rattle.sheet.specs.Sheet.{Rooms, cell_or, has_cell, has_one, has_two, rooms_fine, line_one, shape_of, cells_at, cells_read, bad_line, checks_of, heading_of, judged, sheet_of}
 use Rattle.sheet.specs.declared.lines.CellLine.{CellLine}
 use Rattle.sheet.specs.declared.reading.Heading.{Heading}
 use Rattle.sheet.specs.declared.reading.Sheet.TheVariants.{Read, Refused}
@@ -40,7 +42,7 @@ use Rattle.holes.proofs.WrittenLaws.{says_beds}
 module _ (s : List ℕ) (none : (i : ℕ) → i < squares (shape_of s) → is_hole s i ≡ false) where
   -- as many as are looked at are not more than there are
   none_looked : (i : ℕ) → i < looked_at s → is_hole s i ≡ false
-  none_looked i l = none i (omega (arith, l, (looked_some (line_one s) l).all))
+  none_looked i l = none i (omega (arith, l, (looked_some (grid_line s) l).all))
 
   list_none : (marks beds : List ℕ) (n : ℕ) → n ≤ looked_at s → joined n (list_line s marks beds) ≡ []
   unfolding joined
@@ -95,12 +97,12 @@ module _ (s : List ℕ) (p row column : ℕ) (t : hole_at s p row column ≡ tru
       (subst (λ (n : ℕ). get_or s (p + n) 0 ≡ tab) h (byte_stands b).0, ap (λ (n : ℕ). get_or s n 0) (sym z) ∙ k.byte)
 
   abbrev cell : CellLine
-  cell = cell_line s p row column
+  cell = cell_or (cell_line s p row column)
 
-  unread_line : cell.found ≡ false
+  unread_line : is_some (cell_line s p row column) ≡ false
   unfolding ground_of rest_text fields_text field_text
   unread_line =
-      no_more cell.found
+      no_more (is_some (cell_line s p row column))
       (λ e.
       let end : ℕ = p + length (line_head row column cell.mark) in
       let a : StandsAt s end (rest_text (ground_of cell)) (next_line s p) =
@@ -122,7 +124,7 @@ module _ (s : List ℕ) (i : ℕ) (l : i < squares (shape_of s)) (t : is_hole s 
   few_cells =
       by_lt i (cells_read s (cells_at s) (shape_of s))
       (λ m.
-      not_both (failing_before (squares (shape_of s)) (λ k. (cell_from s (cells_at s) (shape_of s).columns k).found) i m)
+      not_both (failing_before (squares (shape_of s)) (has_cell s (cells_at s) (shape_of s).columns) i m)
       (unread_line s (start_of s i) (i / (shape_of s).columns) (i % (shape_of s).columns) t))
       (λ m. m)
 
@@ -130,7 +132,7 @@ module _ (s : List ℕ) (i : ℕ) (l : i < squares (shape_of s)) (t : is_hole s 
   bad : (k : ℕ) × (bad_line s ≡ suc k)
   unfolding bad_line
   bad =
-      by_test (line_two s).found
+      by_test (has_two s)
       (λ e. (
         cells_read s (cells_at s) (shape_of s) + 2,
         refusal_later 2 _ e
@@ -142,7 +144,7 @@ module _ (s : List ℕ) (i : ℕ) (l : i < squares (shape_of s)) (t : is_hole s 
       (lent : Rooms) → rooms_fine (shape_of s) (line_one s).side lent ≡ true → (line : ℕ) × (Refused 12 line ≡ sheet_of s lent)
   unfolding sheet_of judged
   twelve lent fine =
-      by_test (line_one s).found
+      by_test (has_one s)
       (λ e. (
         suc bad.0,
         sym (pick_true _ _ e ∙ (pick_true _ _ fine ∙ ap (λ (n : ℕ). judged n (checks_of s) (heading_of s)) bad.1)),

@@ -1,12 +1,12 @@
 -- Document 02, #111: "The survey leaves `?` for a bed it couldn't see."
 -- Assumes nothing.
-use Rattle.std.specs.Prelude.{Bool, ◌||◌, List, [], ◌∷◌, ◌++◌, ℕ, ◌+◌, ◌-◌, ◌/◌, ◌%◌, leb, length, take, drop}
+use Rattle.std.specs.Prelude.{Bool, ◌||◌, List, [], ◌∷◌, ◌++◌, ℕ, ◌+◌, ◌-◌, ◌/◌, ◌%◌, leb, length, take, drop, Option, is_some}
 use Rattle.reckon.specs.Tests.{pick, every}
 use Rattle.reckon.specs.Lists.{joined}
 use Rattle.grid.specs.Squares.{squares, shape_fine}
 use Rattle.text.specs.Reading.{tab, word_at, next_line, line_from}
-use Rattle.sheet.specs.Lines.{line_head}
-use Rattle.sheet.specs.Sheet.{line_one, shape_of, cells_at}
+use Rattle.sheet.specs.Lines.{grid_line, line_head}
+use Rattle.sheet.specs.Sheet.{grid_or, shape_of, cells_at}
 use Rattle.sheet.specs.declared.lines.GridLine.{GridLine}
 use Rattle.programs.specs.Program.{program_squares}
 
@@ -40,13 +40,14 @@ module _ (s : List ℕ) (p row column : ℕ) where
 -- ---- the whole text
 
 -- how many squares' lines are looked at: none where the ordinary reader stops at line 1 or at its shape, with `meadow`'s limit
-unfoldable pub looked_in : GridLine → ℕ
+unfoldable pub looked_in : Option GridLine → ℕ
 looked_in top =
-    pick (every (top.found ∷ shape_fine top.shape ∷ leb (squares top.shape) program_squares ∷ [])) (squares top.shape) 0
+    pick (every (is_some top ∷ shape_fine (grid_or top).shape ∷ leb (squares (grid_or top).shape) program_squares ∷ []))
+    (squares (grid_or top).shape) 0
 
 module _ (s : List ℕ) where
   abbrev pub looked_at : ℕ
-  looked_at = looked_in (line_one s)
+  looked_at = looked_in (grid_line s)
 
   -- where the line of square i starts, and whether its bed is a `?`
   abbrev pub start_of : ℕ → ℕ

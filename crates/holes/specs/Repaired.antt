@@ -6,6 +6,7 @@ use Rattle.reckon.specs.Lists.{joined, tabulate}
 use Rattle.grid.specs.Squares.{squares}
 use Rattle.text.specs.Reading.{tab, newline}
 use Rattle.text.specs.Writing.{decimal, field_text, rest_text, Wrote}
+use Rattle.sheet.specs.Lines.{grid_line}
 use Rattle.sheet.specs.Sheet.{Rooms, rooms, rooms_fine, line_one, shape_of, said, sheet_of}
 use Rattle.sheet.specs.Written.{sheet_written}
 use Rattle.sheet.specs.declared.reading.Heading.{Heading}
@@ -100,7 +101,7 @@ pub record Repairs (s : List ℕ) : Type 0 where
   -- "Nothing else in the sheet changes": with `?` for each `?` it is the sheet
   pub nothing_else : with_beds s (λ i. question ∷ []) ≡ s
   -- lines 1 and 2 stay, whatever is put for the `?`
-  pub line_one_stays : (f : ℕ → List ℕ) → line_one (with_beds s f) ≡ line_one s
+  pub line_one_stays : (f : ℕ → List ℕ) → grid_line (with_beds s f) ≡ grid_line s
   -- "a sheet without `?` comes back byte for byte"
   pub no_holes :
       (h : Heading) → length s ≤ most_text → Read h ≡ sheet_of s program_rooms → ((i : ℕ) → i < squares (shape_of s) → is_hole s i ≡ false) →

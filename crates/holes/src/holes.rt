@@ -1,5 +1,5 @@
 // The `?` beds of a sheet's text, and the text with other beds in their places.
-ghost use Rattle.std.specs.Prelude.{◌≡◌, ◌+◌, ◌≤◌, ◌<◌, length};
+ghost use Rattle.std.specs.Prelude.{◌≡◌, ◌+◌, ◌≤◌, length};
 ghost use Rattle.text.specs.Writing.{Wrote};
 ghost use Rattle.sheet.specs.Sheet.{cells_at};
 ghost use Rattle.holes.specs.Holes.{line_with};
@@ -11,13 +11,6 @@ use reckon::numbers::number;
 use text::lines::next_line;
 use text::reading::word_at;
 use text::writing::{put_byte, put_fields, put_number, put_word};
-
-// Where the `?` of a square's line stands, or that it has none.
-#[derive(Clone, Copy)]
-pub(crate) enum Hole {
-    At(usize),
-    None,
-}
 
 // Enough for what any square's line begins with: `cell`, two numbers and their tabs.
 const PLACE_ROOM: usize = 64;
@@ -34,22 +27,22 @@ fn put_place(room: &mut [u8], row: usize, column: usize) -> usize
 }
 
 // The hole of the line at a position, read as that of the square in a row and a column.
-pub(crate) fn hole_at(text: &[u8], at: usize, row: usize, column: usize) -> Hole
+pub(crate) fn hole_at(text: &[u8], at: usize, row: usize, column: usize) -> Option<usize>
     ensures { result ≡ hole_in text.now at row column }
 {
     let mut room = [0u8; PLACE_ROOM];
     let length = put_place(&mut room, row, column);
     if !word_at(text, at, &room[..length]) {
-        return Hole::None;
+        return None;
     }
     let after = at + length;
     if word_at(text, after, b"o\t?\t") {
-        return Hole::At(after + 2);
+        return Some(after + 2);
     }
     if word_at(text, after, b"e\t?\t") {
-        return Hole::At(after + 2);
+        return Some(after + 2);
     }
-    Hole::None
+    None
 }
 
 // A bed in its place, `?` where it is not known.
@@ -78,7 +71,7 @@ fn put_line_with(
     ensures { Wrote (line_with text.now start row column (bed_text bed)) at out.old out.new result }
 {
     let end = next_line(text, start);
-    let Hole::At(spot) = hole_at(text, start, row, column) else {
+    let Some(spot) = hole_at(text, start, row, column) else {
         return put_word(out, at, &text[start..end]);
     };
     let before = put_word(out, at, &text[start..spot]);
@@ -103,8 +96,7 @@ fn put_from(
 {
     let mut start = cells;
     let mut next = at;
-    let mut square: usize = 0;
-    while square < squares {
+    for square in 0..squares {
         let bed = number(beds, square);
         next = put_line_with(
             out,
@@ -116,7 +108,6 @@ fn put_from(
             bed,
         );
         start = next_line(text, start);
-        square += 1;
     }
     put_word(out, next, &text[start..])
 }

@@ -4,11 +4,12 @@ ghost use Rattle.reckon.specs.Tests.{pick};
 ghost use Rattle.reckon.specs.Lists.{filled};
 ghost use Rattle.text.specs.Writing.{Wrote};
 ghost use Rattle.holes.specs.Rounds.{no_bed};
+ghost use Rattle.sheet.specs.Sheet.{grid_or};
 ghost use Rattle.holes.specs.Holes.{hole_at, is_hole, looked_in};
 ghost use Rattle.holes.specs.Repaired.{PrintsRepair, given_text, hole_text, most_repaired};
 ghost use Rattle.holes.specs.Inner.Steps.{Looked, PutsRepaired, Repairable, listed};
 
-use crate::holes::{Hole, cells_at, hole_at, put_with_beds};
+use crate::holes::{cells_at, hole_at, put_with_beds};
 use crate::rounds::{NO_BED, fill_rounds};
 use answer::printing::put_refused;
 use grid::squares::{Shape, shape_fine, squares_of};
@@ -30,7 +31,7 @@ fn mark_hole(text: &[u8], start: usize, row: usize, column: usize, beds: &mut [u
     requires { square < length beds.old }
     ensures { beds.new ≡ pick (not (hole_at text.now start row column)) beds.old (set beds.old square no_bed) }
 {
-    let Hole::At(_spot) = hole_at(text, start, row, column) else {
+    let Some(_spot) = hole_at(text, start, row, column) else {
         return;
     };
     beds[square] = NO_BED;
@@ -42,8 +43,7 @@ fn mark_holes(text: &[u8], columns: usize, squares: usize, beds: &mut [u32])
     ensures { beds.new ≡ filled squares (λ i. not (is_hole text.now i)) (λ i. no_bed) beds.old }
 {
     let mut start = cells_at(text);
-    let mut square: usize = 0;
-    while square < squares {
+    for square in 0..squares {
         mark_hole(
             text,
             start,
@@ -53,7 +53,6 @@ fn mark_holes(text: &[u8], columns: usize, squares: usize, beds: &mut [u32])
             square,
         );
         start = next_line(text, start);
-        square += 1;
     }
 }
 
@@ -86,7 +85,7 @@ fn put_hole(
     requires { at + length (hole_text text.now start row column bed turn) ≤ length out.old }
     ensures { Wrote (hole_text text.now start row column bed turn) at out.old out.new result }
 {
-    let Hole::At(_spot) = hole_at(text, start, row, column) else {
+    let Some(_spot) = hole_at(text, start, row, column) else {
         return at;
     };
     put_given(out, at, row, column, bed, turn)
@@ -108,8 +107,7 @@ fn put_list(
 {
     let mut start = cells_at(text);
     let mut next = at;
-    let mut square: usize = 0;
-    while square < squares {
+    for square in 0..squares {
         let bed = number(beds, square);
         let turn = number(turns, square);
         next = put_hole(
@@ -123,18 +121,30 @@ fn put_list(
             turn,
         );
         start = next_line(text, start);
-        square += 1;
     }
     next
 }
 
+// The shape that line 1 says, one of no squares where it cannot be read.
+fn shape_in(top: Option<GridLine>) -> Shape
+    ensures { result ≡ (grid_or top).shape }
+{
+    match top {
+        Some(top) => top.shape,
+        None => Shape {
+            rows: 0,
+            columns: 0,
+        },
+    }
+}
+
 // How many squares' lines are looked at: none where line 1 cannot be read or its shape is refused.
-fn looked_in(top: GridLine) -> usize
+fn looked_in(top: Option<GridLine>) -> usize
     ensures { result ≡ looked_in top }
 {
-    if !top.found {
+    let Some(top) = top else {
         return 0;
-    }
+    };
     if !shape_fine(top.shape) {
         return 0;
     }
@@ -161,6 +171,7 @@ fn put_repaired(out: &mut [u8], text: &[u8], shape: Shape, marks: &[u8], beds: &
 }
 
 // What is printed of a text, at the start of out; the answer is its length.
+// No `Printer`: what it reads is a text of its own making, and it goes by the marks and beds of that alone.
 pub fn repair_of(text: &[u8], out: &mut [u8; REPAIR_ROOM]) -> usize
     ensures { PrintsRepair text.now out.old out.new result }
 {
@@ -168,7 +179,7 @@ pub fn repair_of(text: &[u8], out: &mut [u8; REPAIR_ROOM]) -> usize
         return put_refused(out, 0, 12, 0);
     }
     let top = grid_line(text);
-    let shape = top.shape;
+    let shape = shape_in(top);
     let squares = looked_in(top);
     let zeros = [0u32; PROGRAM_SQUARES];
     let mut plugged = [0u8; MOST_TEXT];

@@ -1,6 +1,6 @@
 // Unknown beds filled in rounds.
 ghost use Rattle.std.specs.Prelude.{◌≡◌, ◌<◌, ◌≤◌, min, eqb, length, get_or, set};
-ghost use Rattle.reckon.specs.Tests.{all_below, pick};
+ghost use Rattle.reckon.specs.Tests.{pick};
 ghost use Rattle.reckon.specs.Lists.{filled};
 ghost use Rattle.grid.specs.Squares.{OnSquare, ShapeInRange, sides, squares};
 ghost use Rattle.holes.specs.Rounds.{BedsSeen, bed_after, bed_beside, lowest_beside, round_of};
@@ -8,19 +8,9 @@ ghost use Rattle.holes.specs.Inner.Steps.{RoundsMade};
 
 use grid::marks::is_closed;
 use grid::squares::{EAST, NORTH, SOUTH, Shape, WEST, beside_on, next_column, squares_of};
-use reckon::copying::copy_into;
 
 // Stands for a bed that is not known: above every bed.
 pub(crate) const NO_BED: u32 = 1_000_000_001;
-
-fn lower(a: u32, b: u32) -> u32
-    ensures { result ≡ min a b }
-{
-    if a < b {
-        return a;
-    }
-    b
-}
 
 // The bed on a side of a square, NO_BED where there is no square or a closed one.
 fn bed_beside(
@@ -53,7 +43,7 @@ fn lowest_beside(shape: Shape, marks: &[u8], beds: &[u32], square: usize, column
     let east = bed_beside(shape, marks, beds, square, column, EAST);
     let south = bed_beside(shape, marks, beds, square, column, SOUTH);
     let west = bed_beside(shape, marks, beds, square, column, WEST);
-    lower(lower(north, east), lower(south, west))
+    north.min(east).min(south.min(west))
 }
 
 // The bed of a square after a round, by the beds before it.
@@ -73,29 +63,11 @@ fn one_round(shape: Shape, marks: &[u8], before: &[u32], beds: &mut [u32])
     requires { (ShapeInRange shape) × (squares shape ≡ length marks.now) × (squares shape ≡ length before.now) × (squares shape ≡ length beds.old) }
     ensures { beds.new ≡ round_of shape marks.now before.now }
 {
-    let squares = squares_of(shape);
     let mut column: usize = 0;
-    let mut square: usize = 0;
-    while square < squares {
-        beds[square] = bed_after(shape, marks, before, square, column);
+    for (square, bed) in beds.iter_mut().enumerate() {
+        *bed = bed_after(shape, marks, before, square, column);
         column = next_column(shape, column);
-        square += 1;
     }
-}
-
-// A round has filled nothing.
-fn same_beds(before: &[u32], beds: &[u32]) -> bool
-    requires { length before.now ≡ length beds.now }
-    ensures { result ≡ all_below (length before.now) (λ i. eqb (get_or beds.now i 0) (get_or before.now i 0)) }
-{
-    let mut square: usize = 0;
-    while square < before.len() {
-        if beds[square] != before[square] {
-            return false;
-        }
-        square += 1;
-    }
-    true
 }
 
 // The number of a round for a square that it has filled.
@@ -114,10 +86,8 @@ fn note_round(before: &[u32], beds: &[u32], turns: &mut [u32], turn: u32)
     requires { (length before.now ≡ length beds.now) × (length before.now ≤ length turns.old) }
     ensures { turns.new ≡ filled (length before.now) (λ i. eqb (get_or beds.now i 0) (get_or before.now i 0)) (λ i. turn) turns.old }
 {
-    let mut square: usize = 0;
-    while square < before.len() {
+    for square in 0..before.len() {
         note_square(before, beds, turns, turn, square);
-        square += 1;
     }
 }
 
@@ -135,14 +105,12 @@ pub(crate) fn fill_rounds(
     ensures { RoundsMade shape marks.now beds.old beds.new turns.old turns.new }
 {
     let squares = squares_of(shape);
-    let mut turn: u32 = 1;
-    while turn as usize <= squares {
-        copy_into(beds, before, 0);
+    for turn in 1..squares as u32 + 1 {
+        before.copy_from_slice(beds);
         one_round(shape, marks, before, beds);
-        if same_beds(before, beds) {
+        if *beds == *before {
             return;
         }
         note_round(before, beds, turns, turn);
-        turn += 1;
     }
 }

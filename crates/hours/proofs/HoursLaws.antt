@@ -2,7 +2,7 @@
 -- Assumes nothing.
 use mathlib.Core.Path.{◌≡◌, refl, sym, ap, subst, ◌∙◌}
 use mathlib.Core.List.{List}
-use Prim.Native.Nat.{ℕ, ◌≤◌}
+use Prim.Native.Nat.{ℕ, ◌-◌, ◌≤◌}
 use native.Mathlib.Omega.{arith}
 use lib.Dec.{eqb}
 use lib.ListN.{length}
@@ -12,24 +12,19 @@ use Rattle.ledger.specs.Runs.{Plan, World, world}
 use Rattle.ledger.specs.declared.runs.Run.{Run}
 use Rattle.checks.specs.Fresh.{fresh_run}
 use Rattle.checks.specs.Refusals.{run_checks}
-use Rattle.flood.specs.Run.{Ended}
+use Rattle.flood.specs.Run.{Ended, ended, run_from}
 use Rattle.flood.specs.declared.run.Ran.{Ran}
 use Rattle.flood.proofs.RunToLaws.{run_passed}
 use Rattle.text.specs.Writing.{Wrote}
 use Rattle.sheet.specs.Sheet.{Rooms, plan_in, given_in, start_in, no_lasts, no_records, checks_in}
 use Rattle.sheet.specs.declared.reading.Heading.{Heading}
-use Rattle.sheet.specs.declared.reading.Sheet.{Sheet}
-use Rattle.sheet.specs.declared.reading.Sheet.TheVariants.{Read, Refused}
 use Rattle.sheet.proofs.JudgeLaws.{judge_is, one_slot, world_same}
 use Rattle.answer.specs.Printed.{refused_text, made_text}
-use Rattle.programs.specs.Reading.{ReadsWithin}
-use Rattle.programs.specs.Program.{most_text, program_rooms, program_squares, most_printed, ended_text, ran_text, PutRan, Prints}
-use Rattle.programs.specs.Inner.Held.{parts_of}
+use Rattle.programs.specs.Program.{program_squares, most_printed, ended_text, ran_text, PutRan, Prints}
 use Rattle.programs.proofs.EndedLaws.{prints}
-use Rattle.programs.proofs.HeldLaws.{parts_at, parts_said}
 use Rattle.programs.proofs.RunLaws.{runs_sheet}
-use Rattle.hours.specs.Hours.{wet_times, hours_run_text, hours_sheet_text, hours_text}
-use Rattle.hours.specs.Inner.Wet.{WetsOn, RunsSheetWet}
+use Rattle.hours.specs.Hours.{wet_times, hours_run_text}
+use Rattle.hours.specs.Inner.Wet.{RunsSheetWet}
 
 -- ---- the run of a sheet starts from nothing, and passes its checks
 
@@ -46,16 +41,16 @@ module _
 
   pub sheet_wet :
       {a : Ran} {depths lasts records times : List ℕ} → checks_in h.shape h.rules held h.end ≡ 0 →
-      WetsOn (plan_in h.shape h.rules held) (given_in h.shape h.rules held) h.end W a depths lasts records times →
-      RunsSheetWet h held a depths lasts records times
-  sheet_wet {a} z o =
+      ended a.refused a.steps (world depths lasts records a.run) ≡ run_from (plan_in h.shape h.rules held) (given_in h.shape h.rules held) h.end (h.end - W.run.clock) 0 W →
+      times ≡ wet_times (plan_in h.shape h.rules held) (given_in h.shape h.rules held) W a.steps → RunsSheetWet h held a depths lasts records times
+  sheet_wet {a} z ends times_are =
       let run =
       runs_sheet h held l c f
-      (record { ends = run_passed (plan_in h.shape h.rules held) (given_in h.shape h.rules held) h.end W (sym (sheet_passes z)) refl o.ends }) in
+      (record { ends = run_passed (plan_in h.shape h.rules held) (given_in h.shape h.rules held) h.end W (sym (sheet_passes z)) refl ends }) in
       record {
         run = run;
         times_are =
-            o.times_are
+            times_are
             ∙ (ap (λ (x : World). wet_times (plan_in h.shape h.rules held) (given_in h.shape h.rules held) x a.steps)
             (world_same l c (f ∙ ap (fresh_run h.rules) (sym (one_slot h.shape h.rules held))))
             ∙ ap (wet_times (plan_in h.shape h.rules held) (given_in h.shape h.rules held) (start_in h.shape h.rules held))
@@ -79,27 +74,9 @@ hours_are h held f =
     (ap (λ (x : Ended). x.world.run) same)
 
 pub hours_printed :
-    (h : Heading) (held : Rooms) {n : ℕ} {a : Ran} {depths lasts records times shown old new : List ℕ} {r : ℕ} → n ≡ squares h.shape →
-    squares h.shape ≤ program_squares → most_printed ≤ length old → shown ≡ times → RunsSheetWet h (parts_at n h held) a depths lasts records times →
-    PutRan (plan_in h.shape h.rules (parts_at n h held)) shown a 0 old new r → Prints (hours_run_text h (parts_of h held)) old new r
-hours_printed h held {n} {a} {old = old} {new} {r} e few l d f w =
-    let same =
-    ap (λ (x : List ℕ). ran_text (plan_in h.shape h.rules (parts_at n h held)) x a) d
-    ∙ (hours_are h (parts_at n h held) f ∙ ap (λ (k : ℕ). hours_run_text h (parts_at k h held)) e) in
-    prints l (omega (arith, ap (λ (x : List ℕ). length x) same, w.fits, few)) (subst (λ (t : List ℕ). Wrote t 0 old new r) same w.wrote)
-
-module _ (s : List ℕ) {after : Rooms} {old new : List ℕ} {r : ℕ} where
-  answered : {a : Sheet} → ReadsWithin most_text s program_rooms a after → Prints (hours_sheet_text s a) old new r → Prints (hours_text s) old new r
-  unfolding hours_text
-  answered f w = subst (λ (t : List ℕ). Prints t old new r) (ap (hours_sheet_text s) f.answer) w
-
-  pub hours_refused :
-      {number line : ℕ} → ReadsWithin most_text s program_rooms (Refused number line) after → Prints (refused_text number line) old new r →
-      Prints (hours_text s) old new r
-  unfolding hours_sheet_text
-  hours_refused f w = answered f w
-
-  pub hours_run :
-      {h : Heading} → ReadsWithin most_text s program_rooms (Read h) after → Prints (hours_run_text h (parts_of h after)) old new r → Prints (hours_text s) old new r
-  unfolding hours_sheet_text
-  hours_run {h} f w = answered f (subst (λ (z : Rooms). Prints (hours_run_text h z) old new r) (parts_said most_text program_squares s f) w)
+    (h : Heading) (parts : Rooms) {a : Ran} {depths lasts records times shown old new : List ℕ} {r : ℕ} → squares h.shape ≤ program_squares →
+    most_printed ≤ length old → shown ≡ times → RunsSheetWet h parts a depths lasts records times →
+    PutRan (plan_in h.shape h.rules parts) shown a 0 old new r → Prints (hours_run_text h parts) old new r
+hours_printed h parts {a} {old = old} {new} {r} few l d f w =
+    let same = ap (λ (x : List ℕ). ran_text (plan_in h.shape h.rules parts) x a) d ∙ hours_are h parts f in
+    prints l (omega (arith, ap length same, w.fits, few)) (subst (λ (t : List ℕ). Wrote t 0 old new r) same w.wrote)

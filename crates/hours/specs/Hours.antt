@@ -8,13 +8,12 @@ use Rattle.ledger.specs.Runs.{Plan, World}
 use Rattle.ledger.specs.Flows.{shut}
 use Rattle.checks.specs.Given.{Given}
 use Rattle.flood.specs.Run.{steps_on}
-use Rattle.sheet.specs.Sheet.{Rooms, plan_in, given_in, start_in, said}
+use Rattle.sheet.specs.Sheet.{Rooms, plan_in, given_in, start_in}
 use Rattle.sheet.specs.declared.reading.Heading.{Heading}
 use Rattle.sheet.specs.declared.reading.Sheet.{Sheet}
-use Rattle.sheet.specs.declared.reading.Sheet.TheVariants.{Read, Refused}
 use Rattle.answer.specs.Printed.{refused_text, made_text}
 use Rattle.programs.specs.Reading.{sheet_within}
-use Rattle.programs.specs.Program.{most_text, program_rooms, sheet_run}
+use Rattle.programs.specs.Program.{most_text, program_rooms, sheet_run, sheet_printed}
 
 -- a square is wet from 1 cm on, in µm
 abbrev pub wet_depth : ℕ
@@ -50,8 +49,7 @@ module _ (h : Heading) (held : Rooms) where
       (refused_text (sheet_run h held).number 0)
 
 unfoldable pub hours_sheet_text : List ℕ → Sheet → List ℕ
-hours_sheet_text s (Read h) = hours_run_text h (said s)
-hours_sheet_text s (Refused number line) = refused_text number line
+hours_sheet_text s a = sheet_printed hours_run_text s a
 
 -- of a text, with `meadow`'s limits
 unfoldable pub hours_text : List ℕ → List ℕ

@@ -8,6 +8,7 @@ use native.Mathlib.Omega.{arith}
 use lib.Dec.{leb}
 use lib.ListN.{length, get_or, take, drop}
 use borrow.Author.Tests.{leb-true, le-leb, lt-leb, eqb-true, eq-eqb, ne_eqb}
+use Rattle.std.proofs.Common.{Some, None}
 use Rattle.reckon.specs.Tests.{every, all_below, ◌unless◌, refusal}
 use Rattle.reckon.specs.Lists.{filled}
 use Rattle.reckon.specs.Ranges.{most_depth}
@@ -27,7 +28,7 @@ use Rattle.ledger.specs.Inner.TakeBack.{Kept, EarlyRefused, RecordAndDepths, Res
 use Rattle.ledger.specs.Inner.Walks.{Walked}
 use Rattle.ledger.specs.declared.runs.Run.{Run}
 use Rattle.ledger.specs.declared.runs.Answer.TheVariants.{Done, Refused}
-use Rattle.ledger.specs.declared.record.Found.{Found}
+use Rattle.ledger.specs.declared.take_back.Found.{Found}
 use Rattle.ledger.proofs.RunLaws.{every_decides, run_ring, answered_done, answered-refused}
 use Rattle.ledger.proofs.RecordLaws.{part_long, slots_of, slot_fits}
 use Rattle.ledger.proofs.WalkLaws.{walked_unfit}
@@ -87,15 +88,15 @@ module _ (p : Plan) (w : World) (rec : List ℕ) where
       times_fine rec ∷ leb (lasted_in rec) w.run.clock ∷ all_below (squares p.shape) (square_restorable p w rec)
       ∷ leb (off_grid p (leaves_in rec)) w.run.outflow ∷ leb (soaked_grid p (soaked_in rec)) w.run.soaked ∷ []
 
-  pub record_unfit : (k : ℕ) → get_or tests k true ≡ false → Walked p rec (restorable p w rec) (record { fits = false; off = 0; soaked = 0 })
+  pub record_unfit : (k : ℕ) → get_or tests k true ≡ false → Walked p rec (restorable p w rec) None
   unfolding restorable
   record_unfit k e = walked_unfit p rec (every_fails tests k e)
 
   pub record_fit :
-      {found : Found} → found.fits ≡ true → found.off ≡ off_grid p (leaves_in rec) → found.soaked ≡ soaked_grid p (soaked_in rec) →
-      Each tests → Walked p rec (restorable p w rec) found
+      {found : Found} → found.off ≡ off_grid p (leaves_in rec) → found.soaked ≡ soaked_grid p (soaked_in rec) →
+      Each tests → Walked p rec (restorable p w rec) (Some found)
   unfolding restorable
-  record_fit f o s h = record { fits_is = f ∙ sym (each_every tests h); off_is = λ z. o; soaked_is = λ z. s }
+  record_fit o s h = record { fits_is = sym (each_every tests h); off_is = o; soaked_is = s }
 
 -- what a record that passed may rely on, and that it passes by depths and run alone
 module _ (p : Plan) (w : World) (rec : List ℕ) where

@@ -20,9 +20,6 @@ use Rattle.ledger.specs.Inner.Walks.{RecordedTo}
 
 -- ---- words placed
 
-pub placed_at : (l : List ℕ) {a b : ℕ} (v : List ℕ) → a ≡ b → placed l a v ≡ placed l b v
-placed_at l v e = ap (λ (k : ℕ). placed l k v) e
-
 pub part_long : (a k : ℕ) (l : List ℕ) → a + k ≤ length l → length (take (a + k - a) (drop a l)) ≡ k
 part_long a k l h =
     let e : a + k - a ≡ k = omega arith in

@@ -7,13 +7,14 @@ use Prim.Native.Nat.{ℕ, ◌+◌, ◌%◌, ◌≤◌, ◌<◌}
 use native.Mathlib.Nat.{zero-mod}
 use native.Mathlib.Omega.{arith}
 use lib.ListN.{length, set}
+use Rattle.std.proofs.Common.{Some, None}
 use Rattle.reckon.specs.Tests.{pick}
 use Rattle.reckon.specs.Lists.{filled, sum_below}
 use Rattle.reckon.proofs.TestLaws.{not_both, pick_true, pick_false}
 use Rattle.reckon.proofs.ListLaws.{length-filled, filled_store, filled_keep, sum_whole}
 use Rattle.grid.specs.declared.squares.Shape.{Shape}
 use Rattle.grid.specs.Squares.{squares, ShapeInRange, OnSquare, NextColumn}
-use Rattle.grid.proofs.SquareLaws.{carried, column-within}
+use Rattle.grid.proofs.SquareLaws.{carried}
 use Rattle.ledger.specs.Runs.{Plan}
 use Rattle.ledger.specs.Flows.{off_square, off_grid, soaked_square, soaked_grid}
 use Rattle.ledger.specs.Record.{leaves_in, soaked_in}
@@ -33,9 +34,6 @@ module _ (s : Shape) where
   module _ {n square column : ℕ} (w : Walk s n square column) where
     pub walk_stands : ShapeInRange s → square < n → OnSquare s square column
     walk_stands f h = record { fine = f; inside = omega (arith, w.whole); column_is = w.column_is }
-
-    pub walk_column : ShapeInRange s → column < s.columns
-    walk_column f = column-within s square f.columns_low w.column_is
 
     pub walk_next : {next : ℕ} → square < n → NextColumn s column next → Walk s n (square + 1) next
     walk_next h e = record { whole = w.whole; so_far = omega arith; column_is = carried s square w.column_is e }
@@ -66,11 +64,11 @@ filled_whole skipped f old e h = e ∙ ap (λ (k : ℕ). filled k skipped f old)
 -- ---- what a walk finds
 
 module _ (p : Plan) (rec : List ℕ) {test : Bool} where
-  pub walked_unfit : test ≡ false → Walked p rec test (record { fits = false; off = 0; soaked = 0 })
-  walked_unfit e = record { fits_is = sym e; off_is = λ z. not_both z refl; soaked_is = λ z. not_both z refl }
+  pub walked_unfit : test ≡ false → Walked p rec test None
+  walked_unfit e = record { fits_is = sym e; off_is = tt; soaked_is = tt }
 
   pub walked_fit :
       test ≡ true → {n off soaked : ℕ} → off ≡ sum_below n (off_square p (leaves_in rec)) → soaked ≡ sum_below n (soaked_square p (soaked_in rec)) →
-      n ≡ squares p.shape → Walked p rec test (record { fits = true; off = off; soaked = soaked })
+      n ≡ squares p.shape → Walked p rec test (Some (record { off = off; soaked = soaked }))
   unfolding off_grid soaked_grid
-  walked_fit e s t h = record { fits_is = sym e; off_is = λ z. sum_whole _ s h; soaked_is = λ z. sum_whole _ t h }
+  walked_fit e s t h = record { fits_is = sym e; off_is = sum_whole _ s h; soaked_is = sum_whole _ t h }

@@ -36,13 +36,10 @@ pub fn waters_fine(shape: Shape, marks: &[u8], depths: &[u32], lasts: &[u32]) ->
     requires { WaterLent (plan shape marks.now) depths.now lasts.now }
     ensures { WatersJudged (plan shape marks.now) depths.now lasts.now result }
 {
-    let squares = squares_of(shape);
-    let mut square = 0;
-    while square < squares {
+    for square in 0..squares_of(shape) {
         if !square_fine(marks, depths, lasts, square) {
             return false;
         }
-        square += 1;
     }
     true
 }

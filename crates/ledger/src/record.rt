@@ -29,21 +29,6 @@ const SOAKED_WORD: usize = 6;
 // The words of the largest record: a room for one record is this long.
 pub const MOST_RECORD: usize = HEAD_WORDS + SQUARE_WORDS * MOST_SQUARES;
 
-// What a walk over the squares finds: whether each passes its test, and if so what left the grid and what soaked.
-#[derive(Clone, Copy)]
-pub(crate) struct Found {
-    pub(crate) fits: bool,
-    pub(crate) off: u64,
-    pub(crate) soaked: u64,
-}
-
-// Found where a square fails.
-pub(crate) const UNFIT: Found = Found {
-    fits: false,
-    off: 0,
-    soaked: 0,
-};
-
 // The words of a record.
 pub fn record_size(shape: Shape) -> usize
     requires { ShapeInRange shape }

@@ -16,14 +16,21 @@ ghost use Rattle.ledger.specs.Inner.Walks.{Walked};
 
 use crate::lent::{one_each, times_fine, waters_fine};
 use crate::record::{
-    Found, UNFIT, added_by, came_to, held_before, last_before, lasted, lost_from, off_from,
-    record_size, soaked_from,
+    added_by, came_to, held_before, last_before, lasted, lost_from, off_from, record_size,
+    soaked_from,
 };
 use crate::runs::{Answer, Run, run_fine};
 use grid::marks::{is_closed, marks_fine};
 use grid::squares::{Shape, next_column, shape_fine, squares_of};
 use reckon::numbers::number;
 use reckon::ranges::MOST_DEPTH;
+
+// What a walk over the squares of a record finds: what left the grid, and what soaked.
+#[derive(Clone, Copy)]
+struct Found {
+    off: u64,
+    soaked: u64,
+}
 
 // Refusal 1: the shape is in range, and marks, depths and last leaving have one number a square.
 fn back_sizes_fine(shape: Shape, marks: &[u8], depths: &[u32], lasts: &[u32]) -> bool
@@ -114,54 +121,44 @@ fn square_restorable(
     more - less <= (MOST_DEPTH as u64)
 }
 
-// Whether every square can be restored, what left the grid and what soaked.
-fn try_squares(shape: Shape, marks: &[u8], rec: &[u32], depths: &[u32]) -> Found
+// What left the grid and what soaked, where every square can be restored.
+fn try_squares(shape: Shape, marks: &[u8], rec: &[u32], depths: &[u32]) -> Option<Found>
     requires { RecordAndDepths (plan shape marks.now) rec.now depths.now }
     ensures { Walked (plan shape marks.now) rec.now (all_below (squares shape) (square_restorable (plan shape marks.now) (of_depths depths.now) rec.now)) result }
 {
-    let squares = squares_of(shape);
     let mut off: u64 = 0;
     let mut soaked: u64 = 0;
-    let mut square = 0;
     let mut column = 0;
-    while square < squares {
+    for square in 0..squares_of(shape) {
         if !square_restorable(shape, marks, rec, depths, square, column) {
-            return UNFIT;
+            return None;
         }
         off += off_from(shape, marks, rec, square, column);
         soaked += soaked_from(marks, rec, square);
-        square += 1;
         column = next_column(shape, column);
     }
-    Found {
-        fits: true,
-        off: off,
-        soaked: soaked,
-    }
+    Some(Found { off, soaked })
 }
 
-// Refusal 11: whether a record can be taken back, what left the grid and what soaked.
-fn try_record(shape: Shape, run: Run, marks: &[u8], rec: &[u32], depths: &[u32]) -> Found
+// What left the grid and what soaked, where a record can be taken back; none is refusal 11.
+fn try_record(shape: Shape, run: Run, marks: &[u8], rec: &[u32], depths: &[u32]) -> Option<Found>
     requires { RecordAndDepths (plan shape marks.now) rec.now depths.now }
     ensures { Walked (plan shape marks.now) rec.now (restorable (plan shape marks.now) (world depths.now [] [] run) rec.now) result }
 {
     if !times_fine(rec) {
-        return UNFIT;
+        return None;
     }
     if run.clock < lasted(rec) {
-        return UNFIT;
+        return None;
     }
-    let found = try_squares(shape, marks, rec, depths);
-    if !found.fits {
-        return UNFIT;
-    }
+    let found = try_squares(shape, marks, rec, depths)?;
     if run.outflow < found.off {
-        return UNFIT;
+        return None;
     }
     if run.soaked < found.soaked {
-        return UNFIT;
+        return None;
     }
-    found
+    Some(found)
 }
 
 // Restores the depth of a square that is not closed.
@@ -191,12 +188,9 @@ fn restore_depths(shape: Shape, marks: &[u8], rec: &[u32], depths: &mut [u32])
     requires rec_value { all_below (squares shape) (square_restorable (plan shape marks.now) (of_depths depths.old) rec.now) ≡ true }
     ensures { depths.new ≡ filled (squares shape) (closed marks.now) (depth_before (plan shape marks.now) (of_depths depths.old) rec.now) depths.old }
 {
-    let squares = squares_of(shape);
-    let mut square = 0;
     let mut column = 0;
-    while square < squares {
+    for square in 0..squares_of(shape) {
         restore_depth(shape, marks, rec, square, column, depths);
-        square += 1;
         column = next_column(shape, column);
     }
 }
@@ -217,11 +211,8 @@ fn restore_lasts(shape: Shape, marks: &[u8], rec: &[u32], lasts: &mut [u32])
     requires { RecordAndDepths (plan shape marks.now) rec.now lasts.old }
     ensures { lasts.new ≡ filled (squares shape) (closed marks.now) (last_in rec.now) lasts.old }
 {
-    let squares = squares_of(shape);
-    let mut square = 0;
-    while square < squares {
+    for square in 0..squares_of(shape) {
         restore_last(marks, rec, square, lasts);
-        square += 1;
     }
 }
 
@@ -261,10 +252,9 @@ pub fn take_back(
     let at = trials::slot_start(size, run.newest);
     let end = at + size;
     let rec = &records[at..end];
-    let found = try_record(shape, run, marks, rec, depths);
-    if !found.fits {
+    let Some(found) = try_record(shape, run, marks, rec, depths) else {
         return Answer::Refused(11);
-    }
+    };
     restore_depths(shape, marks, rec, depths);
     restore_lasts(shape, marks, rec, lasts);
     Answer::Done(run_before(run, slots, rec, found.off, found.soaked))

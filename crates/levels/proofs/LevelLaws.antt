@@ -1,16 +1,15 @@
 -- Laws of what is printed of boards: how long it can get, and one piece after another.
 -- Assumes nothing.
-use mathlib.Core.Path.{◌≡◌, sym, ap, subst, ◌∙◌}
+use mathlib.Core.Path.{◌≡◌, sym, ap, subst}
 use mathlib.Core.Bool.{true, false}
 use mathlib.Core.List.{List, [], ◌∷◌, ◌++◌}
 use Prim.Native.Nat.{ℕ, zero, suc, ◌+◌, ◌*◌, ◌^◌, ◌≤◌, ◌<◌}
 use native.Mathlib.Nat.{not-suc-le-zero, le_of_suc-le-suc}
 use native.Mathlib.Omega.{arith}
 use lib.ListN.{length, get_or, length-append}
-use lib.Seq.{get_or-take}
 use Rattle.reckon.specs.Lists.{joined}
 use Rattle.reckon.proofs.TestLaws.{pick_true, pick_false, pick_both}
-use Rattle.reckon.proofs.ListLaws.{joined_none, joined_more, joined_ext}
+use Rattle.reckon.proofs.ListLaws.{joined_none, joined_more}
 use Rattle.ledger.specs.declared.runs.Run.{Run}
 use Rattle.text.specs.Reading.{tab, newline}
 use Rattle.text.specs.Writing.{field_text, fields_text, line_text, Wrote}
@@ -132,17 +131,15 @@ module _
 
 -- all that are listed
 pub levels_listed :
-    (boards : Boards) {i : ℕ} {old new : List ℕ} {next : ℕ} → AllListed boards → i ≡ boards.count → LevelsTo boards.list i old new next →
-    PutLevels (listed boards) old new next
+    (boards : Boards) {i : ℕ} {old new : List ℕ} {next : ℕ} → AllListed boards → i ≡ length (listed boards) →
+    LevelsTo (listed boards) i old new next → PutLevels (listed boards) old new next
 unfolding levels_text
 levels_listed boards {i} {old} {new} {next} h e a =
-    let same : joined i (line_of boards.list) ≡ joined (length (listed boards)) (line_of (listed boards)) =
-    ap (λ (k : ℕ). joined k (line_of boards.list)) (e ∙ sym h.many)
-    ∙ joined_ext (length (listed boards)) (line_of boards.list) (line_of (listed boards))
-    (λ k l. ap level_text (sym (get_or-take boards.count boards.list k no_board (omega (arith, l, h.many))))) in
+    let same : joined i (line_of (listed boards)) ≡ joined (length (listed boards)) (line_of (listed boards)) =
+    ap (λ (k : ℕ). joined k (line_of (listed boards))) e in
     record {
       wrote = subst (λ (t : List ℕ). Wrote t 0 old new next) same a.wrote;
-      fits = omega (arith, ap length same, a.short, e, h.few);
+      fits = omega (arith, ap length same, a.short, e, h.many, h.few);
     }
 
 -- ---- steps and clock

@@ -11,7 +11,6 @@ use borrow.Author.Tests.{eq-eqb, ne_eqb, le-leb, lt-leb, leb-true}
 use Rattle.reckon.specs.Tests.{pick, ◌unless◌}
 use Rattle.reckon.specs.Inner.Rows.{numbered}
 use Rattle.reckon.proofs.TestLaws.{pick_true, pick_false, pick_both, every_each, refusal_passed, refusal_both}
-use Rattle.grid.specs.Squares.{squares}
 use Rattle.ledger.specs.Runs.{Plan, World, world}
 use Rattle.ledger.specs.declared.runs.Run.{Run}
 use Rattle.checks.specs.Fresh.{fresh_run}
@@ -22,15 +21,10 @@ use Rattle.text.specs.Writing.{Wrote}
 use Rattle.text.proofs.WritingLaws.{wrote_both, wrote_length}
 use Rattle.sheet.specs.Sheet.{Rooms, plan_in, given_in, start_in, no_lasts, no_records}
 use Rattle.sheet.specs.declared.reading.Heading.{Heading}
-use Rattle.sheet.specs.declared.reading.Sheet.{Sheet}
-use Rattle.sheet.specs.declared.reading.Sheet.TheVariants.{Read, Refused}
 use Rattle.sheet.proofs.JudgeLaws.{one_slot, world_same}
 use Rattle.answer.specs.Printed.{refused_text}
-use Rattle.programs.specs.Reading.{ReadsWithin}
-use Rattle.programs.specs.Program.{most_text, program_rooms, program_squares, most_printed, Prints}
-use Rattle.programs.specs.Inner.Held.{parts_of}
+use Rattle.programs.specs.Program.{most_text, most_printed, text_printed, Prints}
 use Rattle.programs.proofs.EndedLaws.{prints, refused_printed}
-use Rattle.programs.proofs.HeldLaws.{parts_at, parts_said}
 use Rattle.display.specs.Boards.{most_boards, listed, boards_fine}
 use Rattle.display.specs.Watch.{watch_number, watched_to, boards_after, WatchesHeld}
 use Rattle.display.specs.declared.boards.Board.{Board}
@@ -107,13 +101,13 @@ module _ (p : Plan) (g : Given) (end : ℕ) (w : World) (n : ℕ) (boards : List
 -- ---- the run of a sheet with its boards
 
 module _ (h : Heading) (boards : Boards) (long : length boards.list ≡ most_boards) where
-  told :
+  pub sheet_shown :
       (held : Rooms) {a : Shown} {depths lasts records before room : List ℕ} {u : Run} → before ≡ no_lasts h.shape h.rules held →
       room ≡ no_records h.shape h.rules held → u ≡ fresh_run h.rules 1 →
       WatchesHeld (plan_in h.shape h.rules held) (given_in h.shape h.rules held) h.end (world held.cells.depths before room u)
       boards a depths lasts records →
       SheetShown h held boards a
-  told held {a} {depths} {lasts} {records} l c u f =
+  sheet_shown held {a} {depths} {lasts} {records} l c u f =
       let w =
       subst
       (λ (x : World).
@@ -139,16 +133,6 @@ module _ (h : Heading) (boards : Boards) (long : length boards.list ≡ most_boa
                   ∙ (length-take-le boards.count boards.list (omega (arith, few, long)) ∙ sym w.count_is));
             };
       }
-
-  -- with as many squares as were counted
-  pub sheet_shown :
-      (held : Rooms) {n : ℕ} {a : Shown} {depths lasts records before room : List ℕ} {u : Run} → n ≡ squares h.shape →
-      before ≡ no_lasts h.shape h.rules (parts_at n h held) → room ≡ no_records h.shape h.rules (parts_at n h held) →
-      u ≡ fresh_run h.rules 1 →
-      WatchesHeld (plan_in h.shape h.rules (parts_at n h held)) (given_in h.shape h.rules (parts_at n h held)) h.end
-      (world (parts_at n h held).cells.depths before room u) boards a depths lasts records →
-      SheetShown h (parts_of h held) boards a
-  sheet_shown held {n} {a} e l c u f = subst (λ (k : ℕ). SheetShown h (parts_at k h held) boards a) e (told (parts_at n h held) l c u f)
 
 -- what is printed of a run, told by another answer that is equal
 told_as :
@@ -193,22 +177,7 @@ module _ (s b : List ℕ) {old new : List ℕ} {r : ℕ} where
   unfolding boards_text
   boards_long l w = subst (λ (t : List ℕ). Prints t old new r) (sym (pick_false _ _ (lt-leb (length b) most_text l))) w
 
-  module _ (l : length b ≤ most_text) {after : Rooms} where
-    answered :
-        {a : Sheet} → ReadsWithin most_text s program_rooms a after → Prints (level_sheet_text s b a) old new r → Prints (boards_text s b) old new r
-    unfolding boards_text
-    answered f w =
-        subst (λ (t : List ℕ). Prints t old new r) (ap (level_sheet_text s b) f.answer ∙ sym (pick_true _ _ (le-leb (length b) most_text l))) w
-
-    pub sheet_refused :
-        {number line : ℕ} → ReadsWithin most_text s program_rooms (Refused number line) after → Prints (refused_text number line) old new r →
-        Prints (boards_text s b) old new r
-    unfolding level_sheet_text
-    sheet_refused f w = answered f w
-
-    pub sheet-run :
-        {h : Heading} → ReadsWithin most_text s program_rooms (Read h) after → Prints (level_text_of h (parts_of h after) b) old new r →
-        Prints (boards_text s b) old new r
-    unfolding level_sheet_text
-    sheet-run {h} f w =
-        answered f (subst (λ (z : Rooms). Prints (level_text_of h z b) old new r) (parts_said most_text program_squares s f) w)
+  pub boards_short :
+      length b ≤ most_text → Prints (text_printed (λ h held. level_text_of h held b) s) old new r → Prints (boards_text s b) old new r
+  unfolding boards_text level_sheet_text
+  boards_short l w = subst (λ (t : List ℕ). Prints t old new r) (sym (pick_true _ _ (le-leb (length b) most_text l))) w

@@ -3,13 +3,12 @@
 use Rattle.std.specs.Prelude.{List, ℕ, eqb, leb, length}
 use Rattle.reckon.specs.Tests.{pick}
 use Rattle.flood.specs.Run.{Ended}
-use Rattle.sheet.specs.Sheet.{Rooms, plan_in, given_in, start_in, said}
+use Rattle.sheet.specs.Sheet.{Rooms, plan_in, given_in, start_in}
 use Rattle.sheet.specs.declared.reading.Heading.{Heading}
 use Rattle.sheet.specs.declared.reading.Sheet.{Sheet}
-use Rattle.sheet.specs.declared.reading.Sheet.TheVariants.{Read, Refused}
 use Rattle.answer.specs.Printed.{refused_text}
 use Rattle.programs.specs.Reading.{sheet_within}
-use Rattle.programs.specs.Program.{most_text, program_rooms}
+use Rattle.programs.specs.Program.{most_text, program_rooms, sheet_printed}
 use Rattle.display.specs.Boards.{listed}
 use Rattle.display.specs.Watch.{watched_to, boards_after}
 use Rattle.display.specs.declared.boards.Board.{Board}
@@ -36,8 +35,7 @@ level_text_of h held b =
 
 -- the sheet before it, as its reader answers
 unfoldable pub level_sheet_text : List ℕ → List ℕ → Sheet → List ℕ
-level_sheet_text s b (Read h) = level_text_of h (said s) b
-level_sheet_text s b (Refused number line) = refused_text number line
+level_sheet_text s b a = sheet_printed (λ h held. level_text_of h held b) s a
 
 -- with `meadow`'s limits: a text of more bytes is 12, line 0, before all else
 unfoldable pub boards_text : List ℕ → List ℕ → List ℕ

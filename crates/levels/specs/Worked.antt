@@ -1,6 +1,6 @@
 -- Document 02, #101, worked by hand: a board's line read and printed, every number another one, and whole texts.
 -- Assumes nothing.
-use Rattle.std.specs.Prelude.{◌≡◌, Bool, true, false, [], ◌∷◌, ℕ, take}
+use Rattle.std.specs.Prelude.{◌≡◌, Bool, true, false, [], ◌∷◌, ℕ, take, Some, None}
 use Rattle.ledger.specs.Runs.{world}
 use Rattle.flood.specs.Run.{Ended, ended}
 use Rattle.text.specs.Bytes.{bytes_of}
@@ -25,11 +25,11 @@ run number = ended number 6 (world [] [] [] (record { clock = 9_000; length = 50
 
 pub record LevelCases : Type 0 where
   -- a line's fields in their order
-  pub a-line : board_line (bytes_of "3\t7\t2500\n") 0 ≡ record { found = true; board = named 3 7 2_500; next = 9 }
-  pub a_field-short : (board_line (bytes_of "3\t7\n") 0).found ≡ false
-  pub a_field_more : (board_line (bytes_of "3\t7\t2500\t1\n") 0).found ≡ false
-  pub a_space : (board_line (bytes_of "3 7\t2500\n") 0).found ≡ false
-  pub no_newline : (board_line (bytes_of "3\t7\t2500") 0).found ≡ false
+  pub a-line : board_line (bytes_of "3\t7\t2500\n") 0 ≡ Some (record { board = named 3 7 2_500; next = 9 })
+  pub a_field-short : board_line (bytes_of "3\t7\n") 0 ≡ None
+  pub a_field_more : board_line (bytes_of "3\t7\t2500\t1\n") 0 ≡ None
+  pub a_space : board_line (bytes_of "3 7\t2500\n") 0 ≡ None
+  pub no_newline : board_line (bytes_of "3\t7\t2500") 0 ≡ None
   -- a text's lines in their order; the first that cannot be read
   pub two_count : (boards_in (bytes_of "1\t2\t30\n4\t5\t60\n")).count ≡ 2
   pub two_listed : take 2 (boards_in (bytes_of "1\t2\t30\n4\t5\t60\n")).list ≡ named 1 2 30 ∷ named 4 5 60 ∷ []

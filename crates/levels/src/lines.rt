@@ -1,15 +1,14 @@
 // The boards' text: a line a board, with its row, column and mark.
 ghost use Rattle.std.specs.Prelude.{◌≡◌};
-ghost use Rattle.levels.specs.Lines.{board_line, no_line};
+ghost use Rattle.levels.specs.Lines.{board_line};
 ghost use Rattle.levels.specs.Inner.Put.{boards_found};
 
-use display::boards::{Board, Boards, no_board, no_boards, with_board};
-use text::reading::{Number, number_at, rest_of_line};
+use display::boards::{Board, Boards, no_boards, with_board};
+use text::reading::{number_at, rest_of_line};
 
-// Whether a board's line can be read, its board, and where the next line starts.
+// A board's line: its board, and where the next line starts.
 #[derive(Clone, Copy)]
 struct BoardLine {
-    found: bool,
     board: Board,
     next: usize,
 }
@@ -24,40 +23,24 @@ pub(crate) struct BoardsFound {
 // Column and mark, after the row.
 const FIELDS_AFTER_ROW: usize = 2;
 
-// A line that does not begin with a number.
-fn no_line(at: usize) -> BoardLine
-    ensures { result ≡ no_line at }
-{
-    let board = no_board();
-    BoardLine {
-        found: false,
-        board: board,
-        next: at,
-    }
-}
-
 // The line at a position: the row stands where other lines have their word.
-fn board_line(text: &[u8], at: usize) -> BoardLine
+fn board_line(text: &[u8], at: usize) -> Option<BoardLine>
     ensures { result ≡ board_line text.now at }
 {
-    let Number::Is(row, after) = number_at(text, at) else {
-        return no_line(at);
-    };
-    let rest = rest_of_line(text, after, FIELDS_AFTER_ROW);
+    let row = number_at(text, at)?;
+    let rest = rest_of_line(text, row.next, FIELDS_AFTER_ROW)?;
     let values = rest.values;
-    let board = Board {
-        row: row as usize,
-        column: values[0] as usize,
-        mark: values[1],
-        highest: 0,
-        reached: false,
-        first: 0,
-    };
-    BoardLine {
-        found: rest.found,
-        board: board,
+    Some(BoardLine {
+        board: Board {
+            row: row.value as usize,
+            column: values[0] as usize,
+            mark: values[1],
+            highest: 0,
+            reached: false,
+            first: 0,
+        },
         next: rest.next,
-    }
+    })
 }
 
 // All lines, up to the first that cannot be read.
@@ -67,15 +50,13 @@ pub(crate) fn read_boards(text: &[u8]) -> BoardsFound
     let mut boards = no_boards();
     let mut next: usize = 0;
     while next < text.len() {
-        let line = board_line(text, next);
-        if !line.found {
+        let Some(line) = board_line(text, next) else {
             return BoardsFound {
                 bad: boards.count + 1,
                 boards: boards,
             };
-        }
-        let board = line.board;
-        boards = with_board(boards, board);
+        };
+        boards = with_board(boards, line.board);
         next = line.next;
     }
     BoardsFound {

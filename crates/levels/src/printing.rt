@@ -44,14 +44,9 @@ fn put_levels(out: &mut [u8], boards: Boards) -> usize
     requires { (AllListed boards) × (levels_most ≤ length out.old) }
     ensures { PutLevels (listed boards) out.old out.new result }
 {
-    let count = boards.count;
-    let list = boards.list;
     let mut next: usize = 0;
-    let mut place: usize = 0;
-    while place < count {
-        let board = list[place];
-        next = put_level(out, next, board);
-        place += 1;
+    for board in &boards.list[..boards.count] {
+        next = put_level(out, next, *board);
     }
     next
 }
@@ -76,8 +71,6 @@ pub(crate) fn put_shown(out: &mut [u8], shown: Shown) -> usize
     if ran.refused != 0 {
         return put_refused(out, 0, ran.refused, 0);
     }
-    let boards = shown.boards;
-    let run = ran.run;
-    let next = put_levels(out, boards);
-    put_counts(out, next, ran.steps, run.clock)
+    let next = put_levels(out, shown.boards);
+    put_counts(out, next, ran.steps, ran.run.clock)
 }

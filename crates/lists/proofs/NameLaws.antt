@@ -12,6 +12,7 @@ use borrow.Author.Tests.{eq-eqb, ne_eqb}
 use Rattle.reckon.specs.Tests.{pick}
 use Rattle.reckon.proofs.TestLaws.{pick_true, pick_false}
 use Rattle.text.specs.Reading.{newline, is_byte, with_number}
+use Rattle.std.proofs.Common.{Option}
 use Rattle.text.specs.declared.reading.Number.{Number}
 use Rattle.lists.specs.Names.{lines_in, names_from, list_number, list_after}
 use Rattle.lists.specs.declared.names.Listed.{Listed}
@@ -89,5 +90,5 @@ list_good s wet q {number} {names} b n m =
     same e f = cc
 
 pub by_number :
-    (other : Listed) (f : ℕ → ℕ → Listed) {found told : Number} {r : Listed} → found ≡ told → r ≡ with_number told other f → r ≡ with_number found other f
-by_number other f {r = r} e g = subst (λ (n : Number). r ≡ with_number n other f) (sym e) g
+    (other : Listed) (f : ℕ → ℕ → Listed) {found told : Option Number} {r : Listed} → found ≡ told → r ≡ with_number told other f → r ≡ with_number found other f
+by_number other f {r = r} e g = subst (λ (n : Option Number). r ≡ with_number n other f) (sym e) g

@@ -1,7 +1,7 @@
 -- Laws of what is printed of a list: lines of bare numbers, one after another, and how long they can get.
 -- Assumes nothing.
 use mathlib.Core.Path.{◌≡◌, refl, sym, ap, subst, ◌∙◌}
-use mathlib.Core.Bool.{Bool, true, false, ◌&&◌}
+use mathlib.Core.Bool.{Bool, true, false, ◌&&◌, cond, not}
 use mathlib.Core.List.{List, [], ◌∷◌, ◌++◌}
 use Prim.Native.Nat.{ℕ, suc, ◌+◌, ◌-◌, ◌*◌, ◌/◌, ◌%◌, ◌^◌, ◌≤◌, ◌<◌}
 use native.Mathlib.Nat.{div-le_self, mod-le}
@@ -11,6 +11,9 @@ use lib.Dec.{eqb}
 use lib.ListN.{length, get_or, take, drop, length-append, drop_of_length-le}
 use lib.Seq.{drop-cons, length-take-le, get_or-take}
 use borrow.Author.Tests.{leb-true, eq-eqb, ne_eqb}
+use Rattle.std.specs.List.{count_by}
+use Rattle.std.proofs.lemmas.List.Recursion.{is_count_by}
+use Rattle.std.proofs.lemmas.List.Sums.{count_by-le-length}
 use Rattle.reckon.specs.Tests.{pick, every}
 use Rattle.reckon.proofs.TestLaws.{pick_true, pick_false, pick_both, and_true, every_each}
 use Rattle.grid.specs.Squares.{ShapeInRange, squares}
@@ -19,7 +22,6 @@ use Rattle.ledger.specs.Runs.{Plan, plan}
 use Rattle.ledger.specs.Flows.{shut}
 use Rattle.text.specs.Reading.{newline}
 use Rattle.text.specs.Writing.{decimal, field_text, fields_text, line_text, Wrote}
-use Rattle.text.proofs.ReadingLaws.{by_test}
 use Rattle.text.proofs.WritingLaws.{decimal-short, line_text_long, placed_none, wrote_both, wrote_length, wrote_line, Left, left_fits, left_step, left_none}
 use Rattle.answer.specs.Printed.{refused_text}
 use Rattle.answer.proofs.PrintLaws.{joined-short, written_as}
@@ -129,22 +131,16 @@ pub refused-line : (place n : ℕ) → (n ≡ 0 → ⊥) → refused_line place 
 unfolding refused_line
 refused-line place n d = pick_false _ _ (ne_eqb n 0 d)
 
-refused-left :
-    (numbers : List ℕ) (i : ℕ) → i < length numbers →
-    refused_many (drop i numbers) ≡ pick (eqb (get_or numbers i 0) 0) 0 1 + refused_many (drop (i + 1) numbers)
+pub refused_counted : (numbers : List ℕ) → refused_many numbers ≡ count_by (λ (n : ℕ). not (eqb n 0)) numbers
 unfolding refused_many pick
-refused-left numbers i h =
-    ap refused_many (drop-cons numbers i 0 h)
-    ∙ (by_test (eqb (get_or numbers i 0) 0) (λ e. rw (e, add-one i) (omega arith)) (λ e. rw (e, add-one i) (omega arith)))
-
-pub refused_end : (numbers : List ℕ) (i : ℕ) → length numbers ≤ i → refused_many (drop i numbers) ≡ 0
-unfolding refused_many
-refused_end numbers i h = ap refused_many (drop_of_length-le numbers h)
+refused_counted = is_count_by refused_many (λ (n : ℕ). not (eqb n 0)) refl (λ n rest. one (eqb n 0) (refused_many rest))
+  where
+    one : (b : Bool) (k : ℕ) → pick b k (suc k) ≡ cond (not b) (1 + k) k
+    one true k = refl
+    one false k = omega arith
 
 pub refused_few : (numbers : List ℕ) → refused_many numbers ≤ length numbers
-unfolding refused_many
-refused_few [] = omega arith
-refused_few (n ∷ rest) = pick_both (λ (k : ℕ). k ≤ suc (length rest)) (eqb n 0) (omega (arith, refused_few rest)) (omega (arith, refused_few rest))
+refused_few numbers = rw (refused_counted numbers) (count_by-le-length (λ (n : ℕ). not (eqb n 0)) numbers)
 
 lines_more :
     (numbers : List ℕ) (i : ℕ) → i < length numbers →
@@ -160,15 +156,6 @@ unfolding refused_lines
 lines_end numbers i h = ap (refused_lines (i + 1)) (drop_of_length-le numbers h)
 
 -- a turn of the loop that counts them
-pub counted_few : {r : ℕ} (n : ℕ) → r ≡ pick (eqb n 0) 0 1 → r ≤ 1
-counted_few n e = by_test (eqb n 0) (λ z. omega (arith, e ∙ pick_true 0 1 z)) (λ z. omega (arith, e ∙ pick_false 0 1 z))
-
-pub counted_more :
-    (numbers : List ℕ) (i refused : ℕ) {n r : ℕ} → i < length numbers → refused + refused_many (drop i numbers) ≡ refused_many numbers →
-    n ≡ get_or numbers i 0 → r ≡ pick (eqb n 0) 0 1 → refused + r + refused_many (drop (i + 1) numbers) ≡ refused_many numbers
-counted_more numbers i refused {n} {r} l inv e c =
-    omega (arith, inv, c ∙ ap (λ (k : ℕ). pick (eqb k 0) 0 1) e, refused-left numbers i l)
-
 -- a turn of the loop that writes them
 module _ (numbers : List ℕ) (i : ℕ) (l : i < length numbers) {p at : ℕ} {room total old : List ℕ}
     (w : Left (refused_lines (i + 1) (drop i numbers)) p room total at old) {n : ℕ} (e : n ≡ get_or numbers i 0) where

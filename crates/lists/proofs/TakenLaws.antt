@@ -4,16 +4,13 @@ use mathlib.Core.Path.{◌≡◌, refl, sym, ap, subst, ◌∙◌}
 use mathlib.Core.Bool.{Bool, true, false}
 use mathlib.Core.List.{List, [], ◌∷◌}
 use Prim.Native.Nat.{ℕ, ◌+◌, ◌≤◌, ◌<◌}
-use native.Mathlib.Nat.{zero-add}
 use native.Mathlib.Omega.{arith}
 use lib.Dec.{eqb, ltb}
-use lib.ListN.{length, get_or, set, take}
-use lib.Seq.{paste}
+use lib.ListN.{take}
 use borrow.Author.Tests.{lt-ltb, le-ltb, eq-eqb, ne_eqb}
 use Rattle.reckon.specs.Tests.{pick}
 use Rattle.reckon.specs.Lists.{placed}
 use Rattle.reckon.proofs.TestLaws.{pick_true, pick_false}
-use Rattle.reckon.proofs.CopyLaws.{pasted_more}
 use Rattle.grid.specs.Squares.{squares}
 use Rattle.grid.specs.declared.squares.Shape.{Shape}
 use Rattle.ledger.specs.Runs.{Plan, plan}
@@ -24,14 +21,6 @@ use Rattle.lists.specs.Tally.{Rooms, rooms, number_with, plan_now, tally_after, 
 use Rattle.lists.specs.Inner.Judged.{Judges, Merges, TakesAccepted, one_more, full_tally}
 use Rattle.lists.specs.declared.judging.Judged.{Judged}
 use Rattle.lists.specs.declared.tally.Tally.{Tally}
-
--- ---- marks copied to the start of a room
-
-pub mark_copied :
-    (old from : List ℕ) {i : ℕ} {to : List ℕ} → to ≡ paste old 0 from i → i < length old → i < length from →
-    set to i (get_or from i 0) ≡ paste old 0 from (i + 1)
-mark_copied old from {i} {to} e l h =
-    ap (λ (k : ℕ). set to k (get_or from i 0)) (sym (zero-add i)) ∙ pasted_more old 0 from e (omega (arith, l)) h
 
 -- ---- an accepted sheet, with a count that is the number of its squares
 

@@ -33,7 +33,7 @@ use Rattle.flood.specs.Step.{step_number, stepped}
 use Rattle.checks.specs.Fresh.{fresh_run}
 use Rattle.flood.specs.Run.{go_on, run_from, run_to}
 use Rattle.text.specs.Reading.{is_byte, word_at, is_digit, digits_of, value_from, well_formed, number_from, number_at, field_at, before, read_fields, line_ended, read_rest, read_line, padded, as_fields, line_length, next_line, line_from}
-use Rattle.sheet.specs.Lines.{as_grid, grid_line, as_run, run_line, no_cell, closed_cell, as_open, open_cell, marked_cell, placed_cell, cell_line}
+use Rattle.sheet.specs.Lines.{as_grid, grid_line, as_run, run_line, closed_cell, as_open, open_cell, marked_cell, placed_cell, cell_line}
 use Rattle.sheet.specs.Sheet.{cells_read, rows_read, table_rows, bad_line, cells_filled, rooms_filled, rooms_fine, checks_in, heading_of, judged, sheet_of}
 use Rattle.text.specs.Bytes.{bytes_of}
 use Rattle.ledger.specs.Runs.{Plan, plan}
@@ -156,7 +156,7 @@ record Judging : Type 0 where
   deep-peaks : file_peaks (holds deep) ≡ 12_000 ∷ []
 
 judging : Judging
-unfolding pick every all_below first_failing refusal tabulate filled joined placed sum_below water_fine side_fine rate_fine root_from root_of soak_by soak_due row_gives table_gives rain_by on_square inflow_by row_fine table_fine slot_after slot_before ring_fine record_in beside opposite on_rim shape_fine closed exit mark_fine marks_fine inflow_square_fine inflow_squares_fine drop_off candidate counts side_candidates candidates_of least_from held_between fresh_length is_update length_at duration_for ground_fine rules_fine lesser_positive least_drop greatest_drop drop_sum height_of slope_of critical_speed manning_speed speed_of most_through total_of through_sides nothing_unless weighted_sides directed_amount directed_amounts scaled_to directed_sides unlimited_total unlimited_sides weighed run_fine run_values_fine gone sent came off_side off_square off_grid soaked_square soaked_grid leaves_in last_in added_in soaked_in square_record record_of room_slots newest_record remains new_depth depths_fit new_outflow new_soaked late_refusals step_record world_after one_each waters_fine times_fine side_drop drops_of square_candidates candidates leaves_for soaked_for added_for step_length step_duration square_ground_fine grounds_fine end_fine check_refusals step_number stepped fresh_run go_on run_from run_to is_byte word_at is_digit digits_of value_from well_formed number_from number_at field_at before read_fields line_ended read_rest read_line padded as_fields line_length next_line line_from as_grid grid_line as_run run_line no_cell closed_cell as_open open_cell marked_cell placed_cell cell_line cells_read rows_read table_rows bad_line cells_filled rooms_filled rooms_fine checks_in heading_of judged sheet_of bytes_of steps_on most_over peak_of peaks_over sheet_within same_marks same_plan sheet_number file_number file_plan sheet_peaks file_peaks
+unfolding pick every all_below first_failing refusal tabulate filled joined placed sum_below water_fine side_fine rate_fine root_from root_of soak_by soak_due row_gives table_gives rain_by on_square inflow_by row_fine table_fine slot_after slot_before ring_fine record_in beside opposite on_rim shape_fine closed exit mark_fine marks_fine inflow_square_fine inflow_squares_fine drop_off candidate counts side_candidates candidates_of least_from held_between fresh_length is_update length_at duration_for ground_fine rules_fine lesser_positive least_drop greatest_drop drop_sum height_of slope_of critical_speed manning_speed speed_of most_through total_of through_sides nothing_unless weighted_sides directed_amount directed_amounts scaled_to directed_sides unlimited_total unlimited_sides weighed run_fine run_values_fine gone sent came off_side off_square off_grid soaked_square soaked_grid leaves_in last_in added_in soaked_in square_record record_of room_slots newest_record remains new_depth depths_fit new_outflow new_soaked late_refusals step_record world_after one_each waters_fine times_fine side_drop drops_of square_candidates candidates leaves_for soaked_for added_for step_length step_duration square_ground_fine grounds_fine end_fine check_refusals step_number stepped fresh_run go_on run_from run_to is_byte word_at is_digit digits_of value_from well_formed number_from number_at field_at before read_fields line_ended read_rest read_line padded as_fields line_length next_line line_from as_grid grid_line as_run run_line closed_cell as_open open_cell marked_cell placed_cell cell_line cells_read rows_read table_rows bad_line cells_filled rooms_filled rooms_fine checks_in heading_of judged sheet_of bytes_of steps_on most_over peak_of peaks_over sheet_within same_marks same_plan sheet_number file_number file_plan sheet_peaks file_peaks
 judging =
     record {
       shallow_number = refl;

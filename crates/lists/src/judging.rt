@@ -99,6 +99,7 @@ fn run_judged(
 }
 
 // One sheet's text read and judged, its marks and peaks at the start of rooms that held nothing.
+// No `Printer`: it prints nothing, and marks and peaks are its caller's to keep.
 fn judge_text(
     first: First,
     firsts: &[u8],

@@ -92,10 +92,7 @@ pub(crate) fn merge(
     requires shape_in_bounds { (squares shape ≤ length counts.old) × (squares shape ≤ length deepest.old) × (squares shape ≤ length places.old) }
     ensures { Merges (plan shape marks.now) merging.begun merging.wet merging.place peaks.now counts.old deepest.old places.old counts.new deepest.new places.new }
 {
-    let squares = squares_of(shape);
-    let mut square: usize = 0;
-    while square < squares {
+    for square in 0..squares_of(shape) {
         merge_square(merging, square, marks, peaks, counts, deepest, places);
-        square += 1;
     }
 }

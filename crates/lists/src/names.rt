@@ -4,7 +4,7 @@ ghost use Rattle.lists.specs.Names.{ListRead, list_after, list_number, list_refu
 
 use programs::limits::MOST_TEXT;
 use reckon::ranges::MOST_DEPTH;
-use text::reading::{NEWLINE, Number, byte_is, number_at};
+use text::reading::{NEWLINE, byte_is, number_at};
 
 // "up to 200 sheets' file names"
 pub const MOST_SHEETS: usize = 200;
@@ -36,15 +36,13 @@ fn count_names(text: &[u8], at: usize) -> usize
 {
     let mut count: usize = 0;
     let mut begun = false;
-    let mut p = at;
-    while p < text.len() {
+    for p in at..text.len() {
         if text[p] == NEWLINE {
             count += 1;
             begun = false;
         } else {
             begun = true;
         }
-        p += 1;
     }
     if begun {
         return count + 1;
@@ -88,7 +86,7 @@ pub fn read_list(text: &[u8]) -> Listed
         return refused(0);
     }
     match number_at(text, 0) {
-        Number::Not => refused(1),
-        Number::Is(wet, end) => list_after(text, wet, end),
+        None => refused(1),
+        Some(wet) => list_after(text, wet.value, wet.next),
     }
 }

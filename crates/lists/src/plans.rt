@@ -2,23 +2,9 @@
 ghost use Rattle.std.specs.Prelude.{◌≡◌, ◌≤◌, length};
 ghost use Rattle.grid.specs.Squares.{ShapeInRange, squares};
 ghost use Rattle.ledger.specs.Runs.{plan};
-ghost use Rattle.lists.specs.Sheets.{same_marks, same_plan};
+ghost use Rattle.lists.specs.Sheets.{same_plan};
 
 use grid::squares::{Shape, squares_of};
-
-fn same_marks(count: usize, marks: &[u8], others: &[u8]) -> bool
-    requires { (count ≤ length marks.now) × (count ≤ length others.now) }
-    ensures { result ≡ same_marks count marks.now others.now }
-{
-    let mut square: usize = 0;
-    while square < count {
-        if marks[square] != others[square] {
-            return false;
-        }
-        square += 1;
-    }
-    true
-}
 
 pub(crate) fn same_plan(shape: Shape, marks: &[u8], other: Shape, others: &[u8]) -> bool
     requires { (ShapeInRange shape) × (squares shape ≤ length marks.now) × (squares shape ≤ length others.now) }
@@ -30,5 +16,6 @@ pub(crate) fn same_plan(shape: Shape, marks: &[u8], other: Shape, others: &[u8])
     if shape.columns != other.columns {
         return false;
     }
-    same_marks(squares_of(shape), marks, others)
+    let squares = squares_of(shape);
+    marks[..squares] == others[..squares]
 }

@@ -1,6 +1,5 @@
 // What is printed of a list at its end, put into a lent room.
-ghost use Rattle.std.specs.Prelude.{◌≡◌, true, ◌∷◌, ◌+◌, ◌<◌, ◌≤◌, eqb, get_or, length};
-ghost use Rattle.reckon.specs.Tests.{pick};
+ghost use Rattle.std.specs.Prelude.{◌≡◌, true, ◌∷◌, ◌+◌, ◌<◌, ◌≤◌, get_or, length};
 ghost use Rattle.grid.specs.Squares.{ShapeInRange, squares};
 ghost use Rattle.ledger.specs.Runs.{plan};
 ghost use Rattle.text.specs.Writing.{Wrote};
@@ -80,35 +79,17 @@ fn put_squares(
 {
     let squares = squares_of(shape);
     let mut next: usize = 0;
-    let mut square: usize = 0;
-    while square < squares {
+    for square in 0..squares {
         next = put_square(out, next, shape, square, marks, counts, deepest, places);
-        square += 1;
     }
     next
-}
-
-// 1 for the number of a refused sheet, 0 for an accepted one's.
-fn counted(number: u64) -> usize
-    ensures { result ≡ pick (eqb number 0) 0 1 }
-{
-    if number == 0 {
-        return 0;
-    }
-    1
 }
 
 // How many numbers are not 0.
 fn count_refused(numbers: &[u32]) -> usize
     ensures { result ≡ refused_many numbers.now }
 {
-    let mut refused: usize = 0;
-    let mut place: usize = 0;
-    while place < numbers.len() {
-        refused += counted(number(numbers, place));
-        place += 1;
-    }
-    refused
+    numbers.iter().filter(|number| **number != 0).count()
 }
 
 // The line of a place, none where its sheet was accepted.
@@ -129,10 +110,8 @@ fn put_places(out: &mut [u8], at: usize, numbers: &[u32]) -> usize
     ensures { Wrote (refused_lines 1 numbers.now) at out.old out.new result }
 {
     let mut next = at;
-    let mut place: usize = 0;
-    while place < numbers.len() {
-        next = put_place(out, next, place as u64 + 1, number(numbers, place));
-        place += 1;
+    for (place, number) in numbers.iter().enumerate() {
+        next = put_place(out, next, place as u64 + 1, *number as u64);
     }
     next
 }

@@ -47,13 +47,9 @@ pub fn begin_tally(wet: u32) -> Tally
 fn full(tally: Tally) -> Tally
     ensures { result ≡ full_tally tally }
 {
-    let shape = tally.shape;
     Tally {
-        wet: tally.wet,
-        taken: tally.taken,
-        begun: tally.begun,
-        shape: shape,
         number: 16,
+        ..tally
     }
 }
 
@@ -62,13 +58,10 @@ fn noted(tally: Tally, number: u32) -> Tally
     requires { tally.taken < most_sheets }
     ensures { result ≡ one_more tally tally.begun tally.shape number }
 {
-    let shape = tally.shape;
     Tally {
-        wet: tally.wet,
         taken: tally.taken + 1,
-        begun: tally.begun,
-        shape: shape,
         number: number,
+        ..tally
     }
 }
 
@@ -86,18 +79,6 @@ fn accepted(tally: Tally, shape: Shape) -> Tally
     }
 }
 
-// Marks copied to the start of a room.
-fn copy_marks(from: &[u8], to: &mut [u8])
-    requires { length from.now ≤ length to.old }
-    ensures { to.new ≡ placed to.old 0 from.now }
-{
-    let mut i: usize = 0;
-    while i < from.len() {
-        to[i] = from[i];
-        i += 1;
-    }
-}
-
 // The first accepted sheet's marks are kept.
 fn keep_first(begun: bool, from: &[u8], marks: &mut [u8])
     requires { length from.now ≤ length marks.old }
@@ -106,7 +87,7 @@ fn keep_first(begun: bool, from: &[u8], marks: &mut [u8])
     if begun {
         return;
     }
-    copy_marks(from, marks);
+    marks[..from.len()].copy_from_slice(from);
 }
 
 // One accepted sheet more, whose marks and peaks lie at the start of their rooms.

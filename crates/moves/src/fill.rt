@@ -10,7 +10,7 @@ ghost use Rattle.grid.specs.Inner.Rows.{InRow};
 ghost use Rattle.ledger.specs.Runs.{plan};
 ghost use Rattle.ledger.specs.Flows.{four_sides};
 ghost use Rattle.checks.specs.Given.{ground};
-ghost use Rattle.moves.specs.Inner.Fill.{Cleared, FilledColumns, FilledOn, FilledOne, Fills, HasRow, HasRows, HasSquare, UnstirredBy, UnstirredRow, LeftKept, LeftTo, RecordFilled, sender_rows, stirs, worked_rows, works_on};
+ghost use Rattle.moves.specs.Inner.Fill.{FilledColumns, FilledOn, FilledOne, Fills, HasRow, HasRows, HasSquare, UnstirredBy, UnstirredRow, LeftKept, LeftTo, RecordFilled, sender_rows, stirs, worked_rows, works_on};
 
 use crate::drops::drops_of;
 use crate::way::{Place, Row, Span};
@@ -179,9 +179,7 @@ fn worked_below(
     ensures { result ≡ mask_from (works_on walk depths.now lasts.now added.now) row.first columns }
 {
     let mut mask = row.mask;
-    let mut ahead = beyond;
-    while 0 < ahead {
-        ahead -= 1;
+    for ahead in (0..beyond).rev() {
         mask = mask * 2 + worked_digit(walk, depths, lasts, added, row.first + ahead);
     }
     mask
@@ -223,11 +221,9 @@ fn mark_worked(
 {
     let rows = shape.rows;
     let columns = shape.columns;
-    let mut row = 0;
     let mut first = 0;
-    while row < rows {
+    for row in 0..rows {
         worked[row] = worked_row(walk, depths, lasts, added, first, columns);
-        row += 1;
         first += columns;
     }
 }
@@ -302,32 +298,18 @@ fn fill_rows(
 {
     let rows = way.shape.rows;
     let columns = way.shape.columns;
-    let mut row = 0;
     let mut first = 0;
-    while row < rows {
+    for row in 0..rows {
         let mask = worked[row];
         let this = Row { first, mask };
         senders[row] = fill_row(
             way, span, this, marks, beds, roughness, rates, depths, lasts, added, rec, left,
         );
-        row += 1;
         first += columns;
     }
 }
 
 // ---- the record
-
-// Clears a record's room.
-fn clear(rec: &mut [u32])
-    ensures { Cleared rec.new }
-{
-    let words = rec.len();
-    let mut word = 0;
-    while word < words {
-        rec[word] = 0;
-        word += 1;
-    }
-}
 
 // Works the whole record, all squares from the water before the step, by either walk; tells the rows of the squares that were worked and of
 // those that send, and keeps what left each square that was worked.
@@ -350,7 +332,7 @@ pub fn fill(
     requires held_le_most_length { (span.held ≤ most_length) × (length left.old ≡ squares way.shape) × (length worked.old ≡ way.shape.rows) × (length senders.old ≡ way.shape.rows) }
     ensures { (RecordFilled (plan way.shape marks.now) (ground way.rules beds.now roughness.now rates.now) depths.now lasts.now added.now span.held span.start span.duration rec.new) × (worked.new ≡ worked_rows way.walk way.shape depths.now lasts.now added.now) × (senders.new ≡ sender_rows (plan way.shape marks.now) (ground way.rules beds.now roughness.now rates.now) depths.now lasts.now span.duration) × (LeftKept way.walk (plan way.shape marks.now) (ground way.rules beds.now roughness.now rates.now) depths.now lasts.now added.now span.duration left.new) }
 {
-    clear(rec);
+    rec.fill(0);
     put_head(rec, span.held, span.duration);
     let walk = way.walk;
     mark_worked(walk, way.shape, depths, lasts, added, worked);

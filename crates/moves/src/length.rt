@@ -50,12 +50,10 @@ fn least_of_all(way: Way, marks: &[u8], beds: &[u32], roughness: &[u32], depths:
 {
     let squares = squares_of(way.shape);
     let mut best = way.rules.longest;
-    let mut square = 0;
     let mut column = 0;
-    while square < squares {
+    for square in 0..squares {
         let at = Place { square, column };
         best = shorter_by(way, at, marks, beds, roughness, depths, best);
-        square += 1;
         column = next_column(way.shape, column);
     }
     best
@@ -97,12 +95,10 @@ fn least_of_wet(way: Way, marks: &[u8], beds: &[u32], roughness: &[u32], depths:
     let rows = way.shape.rows;
     let columns = way.shape.columns;
     let mut best = way.rules.longest;
-    let mut row = 0;
     let mut first = 0;
-    while row < rows {
+    for row in 0..rows {
         let wet = row_mask(marks, depths, LEAST_WET, first, columns);
         best = least_in_row(way, marks, beds, roughness, depths, best, first, wet);
-        row += 1;
         first += columns;
     }
     best

@@ -1,9 +1,9 @@
--- Laws of the peaks of a run: where a loop of steps has come to, the rooms hold the peaks of all states so far.
+-- Laws of the peaks of a run: rooms that each state raises hold the peaks of all states so far.
 -- Assumes nothing.
-use mathlib.Core.Path.{◌≡◌, refl, sym, ap, ◌∙◌}
+use mathlib.Core.Path.{◌≡◌, refl, sym, ap, subst, ◌∙◌}
 use mathlib.Core.Bool.{Bool, true, false}
 use mathlib.Core.List.{List}
-use Prim.Native.Nat.{ℕ, suc, ◌+◌, ◌<◌, ◌^◌}
+use Prim.Native.Nat.{ℕ, zero, suc, ◌+◌, ◌<◌, ◌^◌}
 use native.Mathlib.Numerals.{add-one}
 use native.Mathlib.Decide.{dec_lt}
 use native.Mathlib.Omega.{arith}
@@ -25,6 +25,7 @@ use Rattle.checks.specs.Inner.Ready.{Ready}
 use Rattle.checks.proofs.CheckLaws.{ready}
 use Rattle.flood.specs.Step.{stepped}
 use Rattle.flood.specs.Run.{steps_on}
+use Rattle.flood.specs.Inner.Run.{KeptOver}
 use Rattle.flood.proofs.RunToLaws.{Valid}
 use Rattle.reckon.specs.Most.{most_over, first_most}
 use Rattle.peaks.specs.Peaks.{depth_after, peak_of, peak_clock, peaks_over, clocks_over}
@@ -207,6 +208,20 @@ module _ (p : Plan) (g : Given) (w : World) {peaks₀ clocks₀ peaks₁ clocks�
         peaks_are = r.peaks_are ∙ again_peaks steps;
         clocks_are = r.clocks_are ∙ again_clocks steps;
       }
+
+-- ---- raised by each step of a run
+
+module _
+    (p : Plan) (g : Given) (w : World) (n : length p.marks ≡ squares p.shape) {K : Type 0} (keeps : Plan → List ℕ → ℕ → ℕ → K → K → Type 0) (peaks clocks : K → List ℕ)
+    (raises : (depths : List ℕ) (before clock : ℕ) (k k' : K) → keeps p depths before clock k k' → Raises false clock p.marks depths (peaks k) (clocks k) (peaks k') (clocks k')) where
+  pub peaks_kept :
+      (steps : ℕ) {t t' : K} → length (peaks t) ≡ length (clocks t) → Peaked p g w (peaks t) (clocks t) w 0 (peaks t) (clocks t) → KeptOver keeps p g w steps t t' →
+      Peaked p g w (peaks t) (clocks t) (steps_on p g steps w) steps (peaks t') (clocks t')
+  unfolding KeptOver steps_on
+  peaks_kept zero {t} {t'} even f r = subst (λ (k : K). Peaked p g w (peaks t) (clocks t) w 0 (peaks k) (clocks k)) (sym r) f
+  peaks_kept (suc steps) {t} even f r =
+      rw (sym (add-one steps))
+      (peaked_on p g w (peaks t) (clocks t) n (peaks_kept steps even f r.1) refl even (raises _ _ _ _ _ r.2.kept))
 
 -- ---- what is known of a world that passes the checks
 

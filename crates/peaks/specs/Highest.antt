@@ -9,13 +9,12 @@ use Rattle.ledger.specs.Flows.{shut}
 use Rattle.ledger.specs.declared.runs.Run.{Run}
 use Rattle.text.specs.Writing.{line_text}
 use Rattle.sheet.specs.Lines.{cell_word}
-use Rattle.sheet.specs.Sheet.{Rooms, plan_in, given_in, start_in, said}
+use Rattle.sheet.specs.Sheet.{Rooms, plan_in, given_in, start_in}
 use Rattle.sheet.specs.declared.reading.Heading.{Heading}
 use Rattle.sheet.specs.declared.reading.Sheet.{Sheet}
-use Rattle.sheet.specs.declared.reading.Sheet.TheVariants.{Read, Refused}
 use Rattle.answer.specs.Printed.{refused_text, totals_text}
 use Rattle.programs.specs.Reading.{sheet_within}
-use Rattle.programs.specs.Program.{most_text, program_rooms, sheet_run}
+use Rattle.programs.specs.Program.{most_text, program_rooms, sheet_run, sheet_printed}
 use Rattle.peaks.specs.Peaks.{peaks_over, clocks_over}
 
 -- each square not closed with its highest depth and that clock, and then what `meadow` prints of a run's totals
@@ -48,8 +47,7 @@ module _ (h : Heading) (held : Rooms) where
       (refused_text (sheet_run h held).number 0)
 
 unfoldable pub high_sheet_text : List ℕ → Sheet → List ℕ
-high_sheet_text s (Read h) = high_run_text h (said s)
-high_sheet_text s (Refused number line) = refused_text number line
+high_sheet_text s a = sheet_printed high_run_text s a
 
 -- of a text, with `meadow`'s limits
 unfoldable pub highest_text : List ℕ → List ℕ

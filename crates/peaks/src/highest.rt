@@ -3,22 +3,20 @@ ghost use Rattle.std.specs.Prelude.{◌+◌, ◌<◌, ◌≤◌, length};
 ghost use Rattle.grid.specs.Squares.{ShapeInRange, squares};
 ghost use Rattle.ledger.specs.Runs.{plan};
 ghost use Rattle.text.specs.Writing.{Wrote};
-ghost use Rattle.sheet.specs.Sheet.{rooms};
 ghost use Rattle.programs.specs.Program.{Prints, most_printed, program_squares};
-ghost use Rattle.programs.specs.Inner.Held.{Holds, parts_of};
 ghost use Rattle.peaks.specs.Highest.{high_text, highs_text, high_run_text, highest_text};
 ghost use Rattle.peaks.specs.Inner.Sheets.{PutHighest};
 
-use crate::running::run_sheet_peaks;
+use crate::running::run_peaks;
 use answer::printing::{put_refused, put_totals};
+use checks::fresh::fresh_run;
 use flood::run::Ran;
 use grid::marks::is_closed;
 use grid::squares::{Shape, squares_of};
-use programs::limits::{MOST_TEXT, OUT_ROOM, PROGRAM_SQUARES};
-use programs::reading::read_within;
+use programs::limits::{OUT_ROOM, PROGRAM_SQUARES};
+use programs::printer::{Printer, printed_of};
 use reckon::numbers::number;
-use reckon::tables::{INFLOW_ROOM, RAIN_ROOM};
-use sheet::reading::{Heading, Sheet};
+use sheet::reading::Heading;
 use text::writing::put_line;
 
 // The line of a square, none where it is closed.
@@ -63,10 +61,8 @@ fn put_highs(
 {
     let squares = squares_of(shape);
     let mut next = at;
-    let mut square: usize = 0;
-    while square < squares {
+    for square in 0..squares {
         next = put_high(out, next, shape, marks, peaks, clocks, square);
-        square += 1;
     }
     next
 }
@@ -91,80 +87,61 @@ fn put_highest(
     put_totals(out, next, ran.run, ran.steps)
 }
 
-// What is printed of a sheet that was read into the rooms.
-fn print_highest(
-    out: &mut [u8],
-    heading: Heading,
-    marks: &[u8],
-    beds: &[u32],
-    roughness: &[u32],
-    rates: &[u32],
-    rain: &[u32],
-    inflow: &[u32],
-    depths: &mut [u32],
-) -> usize
-    requires { (Holds program_squares heading (rooms marks.now beds.now roughness.now rates.now depths.old rain.now inflow.now)) × (most_printed ≤ length out.old) }
-    ensures { Prints (high_run_text heading (parts_of heading (rooms marks.now beds.now roughness.now rates.now depths.old rain.now inflow.now))) out.old out.new result }
-{
-    let mut peaks = [0u32; PROGRAM_SQUARES];
-    let mut clocks = [0u32; PROGRAM_SQUARES];
-    let ran = run_sheet_peaks(
-        heading,
-        marks,
-        beds,
-        roughness,
-        rates,
-        rain,
-        inflow,
-        depths,
-        &mut peaks,
-        &mut clocks,
-    );
-    let squares = squares_of(heading.shape);
-    put_highest(
-        out,
-        heading.shape,
-        &marks[..squares],
-        &peaks[..squares],
-        &clocks[..squares],
-        ran,
-    )
+// The run, and each square's peak with its clock.
+struct Highest;
+
+impl Printer for Highest {
+    ghost printed = { λ it. high_run_text };
+
+    fn print(
+        &self,
+        out: &mut [u8],
+        heading: Heading,
+        marks: &[u8],
+        beds: &[u32],
+        roughness: &[u32],
+        rates: &[u32],
+        rain: &[u32],
+        inflow: &[u32],
+        depths: &mut [u32],
+        lasts: &mut [u32],
+        records: &mut [u32],
+    ) -> usize {
+        let mut peaks = [0u32; PROGRAM_SQUARES];
+        let mut clocks = [0u32; PROGRAM_SQUARES];
+        let squares = squares_of(heading.shape);
+        let run = fresh_run(heading.rules, 1);
+        let ran = run_peaks(
+            heading.shape,
+            heading.rules,
+            run,
+            heading.end,
+            marks,
+            beds,
+            roughness,
+            rates,
+            rain,
+            inflow,
+            depths,
+            lasts,
+            records,
+            &mut peaks[..squares],
+            &mut clocks[..squares],
+        );
+        put_highest(
+            out,
+            heading.shape,
+            marks,
+            &peaks[..squares],
+            &clocks[..squares],
+            ran,
+        )
+    }
 }
 
 // What is printed of a text, at the start of out; the answer is its length.
 pub fn highest_of(text: &[u8], out: &mut [u8; OUT_ROOM]) -> usize
     ensures { Prints (highest_text text.now) out.old out.new result }
 {
-    let mut marks = [0u8; PROGRAM_SQUARES];
-    let mut beds = [0u32; PROGRAM_SQUARES];
-    let mut roughness = [0u32; PROGRAM_SQUARES];
-    let mut rates = [0u32; PROGRAM_SQUARES];
-    let mut depths = [0u32; PROGRAM_SQUARES];
-    let mut rain = [0u32; RAIN_ROOM];
-    let mut inflow = [0u32; INFLOW_ROOM];
-    let sheet = read_within(
-        text,
-        MOST_TEXT,
-        &mut marks,
-        &mut beds,
-        &mut roughness,
-        &mut rates,
-        &mut depths,
-        &mut rain,
-        &mut inflow,
-    );
-    match sheet {
-        Sheet::Refused(number, line) => put_refused(out, 0, number, line),
-        Sheet::Read(heading) => print_highest(
-            out,
-            heading,
-            &marks,
-            &beds,
-            &roughness,
-            &rates,
-            &rain,
-            &inflow,
-            &mut depths,
-        ),
-    }
+    printed_of(&Highest, text, out)
 }

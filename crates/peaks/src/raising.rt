@@ -61,10 +61,8 @@ fn raise_between(
     requires { (start ≤ stop) × (stop ≤ length marks.now) × (stop ≤ length depths.now) × (stop ≤ length peaks.old) × (stop ≤ length clocks.old) }
     ensures { RaisesBetween first clock marks.now depths.now peaks.old clocks.old start stop peaks.new clocks.new }
 {
-    let mut square = start;
-    while square < stop {
+    for square in start..stop {
         raise_one(first, clock, marks, depths, peaks, clocks, square);
-        square += 1;
     }
 }
 
@@ -129,10 +127,18 @@ pub fn raise(
     ensures { Raises first clock marks.now depths.now peaks.old clocks.old peaks.new clocks.new }
 {
     let squares = marks.len();
-    let mut square: usize = 0;
-    while 8 <= squares - square {
-        raise_eight(first, clock, marks, depths, peaks, clocks, square);
-        square += 8;
+    let eights = squares / 8;
+    for eight in 0..eights {
+        raise_eight(first, clock, marks, depths, peaks, clocks, 8 * eight);
     }
-    raise_between(first, clock, marks, depths, peaks, clocks, square, squares);
+    raise_between(
+        first,
+        clock,
+        marks,
+        depths,
+        peaks,
+        clocks,
+        8 * eights,
+        squares,
+    );
 }

@@ -1,5 +1,5 @@
 // A run to an end with the peaks of its states.
-ghost use Rattle.std.specs.Prelude.{◌≡◌, [], ◌∷◌, ◌≤◌, eqb, length};
+ghost use Rattle.std.specs.Prelude.{◌≡◌, false, [], ◌∷◌, ◌≤◌, eqb, length};
 ghost use Rattle.reckon.specs.Ranges.{last_clock};
 ghost use Rattle.reckon.specs.Tests.{every};
 ghost use Rattle.grid.specs.Squares.{squares, shape_fine};
@@ -11,7 +11,7 @@ ghost use Rattle.sheet.specs.Sheet.{rooms};
 ghost use Rattle.programs.specs.Program.{program_squares};
 ghost use Rattle.programs.specs.Inner.Held.{Holds, parts_of};
 ghost use Rattle.peaks.specs.Peaks.{RunsPeaking};
-ghost use Rattle.peaks.specs.Inner.Raised.{PeaksOn};
+ghost use Rattle.peaks.specs.Inner.Raised.{PeaksOn, Raises};
 ghost use Rattle.peaks.specs.Inner.Sheets.{RunsSheetPeaks};
 
 use crate::raising::raise;
@@ -19,9 +19,8 @@ use adding::added::rows_apart;
 use adding::way::Way;
 use checks::fresh::fresh_run;
 use checks::refusals::check;
-use flood::run::Ran;
-use flood::step::step_on;
-use grid::squares::{MOST_ALONG, MOST_SQUARES, Shape, shape_fine, squares_of};
+use flood::run::{Keeper, Ran, run_kept};
+use grid::squares::{Shape, shape_fine, squares_of};
 use grid::walks::Walk;
 use ledger::record::record_size;
 use ledger::runs::Run;
@@ -29,6 +28,23 @@ use programs::limits::{PROGRAM_SQUARES, RECORD_ROOM};
 use reckon::tables::{INFLOW_WIDTH, RAIN_WIDTH};
 use rule::rules::Rules;
 use sheet::reading::Heading;
+
+// The highest depth of each square so far, and the clock when it first stood so high.
+#[derive(Drop)]
+struct Peaks<'a> {
+    peaks: &'a mut [u32],
+    clocks: &'a mut [u32],
+}
+
+impl<'a> Keeper for Peaks<'a> {
+    ghost fits = { λ p clock it. (length it.peaks.now ≡ length p.marks) × (length it.clocks.now ≡ length p.marks) };
+
+    ghost keeps = { λ p depths before clock it after. (after.peaks.ghost_name ≡ it.peaks.ghost_name) × (after.clocks.ghost_name ≡ it.clocks.ghost_name) × (Raises false clock p.marks depths it.peaks.now it.clocks.now after.peaks.now after.clocks.now) };
+
+    fn keep(&mut self, shape: Shape, marks: &[u8], depths: &[u32], before: u64, clock: u64) {
+        raise(false, clock as u32, marks, depths, self.peaks, self.clocks);
+    }
+}
 
 // Steps while the clock is below the end, up to a step that is refused, with the peaks of the first state and of each after a step.
 fn peak_on(
@@ -52,51 +68,15 @@ fn peak_on(
     requires peaks_len { (length peaks.old ≡ squares way.shape) × (length clocks.old ≡ squares way.shape) }
     ensures { PeaksOn (plan way.shape marks.now) (given (ground way.rules beds.now roughness.now rates.now) rain.now inflow.now) end (world depths.old lasts.old records.old run) peaks.old clocks.old result depths.new lasts.new records.new peaks.new clocks.new }
 {
-    let squares = squares_of(way.shape);
-    let rows = way.shape.rows;
-    let mut left = [0u32; MOST_SQUARES];
-    let mut worked = [0u64; MOST_ALONG];
-    let mut senders = [0u64; MOST_ALONG];
-    let mut room = [0u32; MOST_SQUARES];
     raise(true, run.clock as u32, marks, depths, peaks, clocks);
-    let mut at = run;
-    let mut steps: u64 = 0;
-    while at.clock < end {
-        let made = step_on(
-            way,
-            at,
-            marks,
-            beds,
-            roughness,
-            rates,
-            rain,
-            inflow,
-            depths,
-            lasts,
-            records,
-            &mut left[..squares],
-            &mut worked[..rows],
-            &mut senders[..rows],
-            &mut room[..squares],
-        );
-        let refused = made.refused;
-        let after = made.run;
-        if refused != 0 {
-            return Ran {
-                refused: refused,
-                steps: steps,
-                run: after,
-            };
-        }
-        raise(false, after.clock as u32, marks, depths, peaks, clocks);
-        at = after;
-        steps += 1;
-    }
-    Ran {
-        refused: 0,
-        steps: steps,
-        run: at,
-    }
+    let mut kept = Peaks {
+        peaks: peaks,
+        clocks: clocks,
+    };
+    run_kept(
+        &mut kept, way, run, end, marks, beds, roughness, rates, rain, inflow, depths, lasts,
+        records,
+    )
 }
 
 // Whether the rooms of peaks hold one number a square.

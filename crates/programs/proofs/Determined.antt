@@ -32,4 +32,5 @@ programs_determined =
       read_within = λ most text before. within_one;
       run_sheet = λ h held. sheet_run_one;
       put_ran = λ p depths ran at room a b x y. written a b x.wrote y.wrote;
+      printed_of = λ printed text old a b x y. written a b x.wrote y.wrote;
     }

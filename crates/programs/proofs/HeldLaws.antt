@@ -168,6 +168,3 @@ record-in f = omega (arith, f.few)
 -- a part that was written over, before the rest of its room
 pub first_part : {n : ℕ} (new rest : List ℕ) → length new ≡ n → take n (new ++ rest) ≡ new
 first_part {n} new rest e = take_at new rest n e
-
-pub first_in : {n : ℕ} (new rest : List ℕ) → length new ≡ n → n ≤ length (new ++ rest)
-first_in new rest e = omega (arith, e, length-append new rest)

@@ -2,4 +2,5 @@ pub mod Determined
 pub mod EndedLaws
 pub mod HeldLaws
 pub mod MeadowLaws
+pub mod PrinterLaws
 pub mod RunLaws

@@ -15,10 +15,8 @@ use Rattle.text.specs.Writing.{Wrote}
 use Rattle.sheet.specs.Sheet.{Rooms, plan_in, given_in, no_lasts, no_records}
 use Rattle.sheet.specs.declared.reading.Heading.{Heading}
 use Rattle.sheet.proofs.JudgeLaws.{one_slot, world_same}
-use Rattle.programs.specs.Inner.Held.{parts_of}
 use Rattle.programs.specs.Program.{program_squares, most_printed, ended_text, ran_text, run_text, RunsSheet, PutRan, Prints}
 use Rattle.programs.proofs.EndedLaws.{prints}
-use Rattle.programs.proofs.HeldLaws.{parts_at}
 
 module _ (h : Heading) (held : Rooms) {a : Ran} {depths lasts records : List ℕ} where
   pub runs_sheet :
@@ -39,13 +37,11 @@ module _ (h : Heading) (held : Rooms) {a : Ran} {depths lasts records : List ℕ
   unfolding ended_text run_text
   run_is f = ap (λ (x : Ended). ended_text (plan_in h.shape h.rules held) x) f.ends
 
--- the run of what belongs to a sheet, printed at the start of a room
+-- that run, printed at the start of a room
 pub run_printed :
-    (h : Heading) (held : Rooms) {n : ℕ} {a : Ran} {depths lasts records shown old new : List ℕ} {r : ℕ} → n ≡ squares h.shape →
-    squares h.shape ≤ program_squares → most_printed ≤ length old → shown ≡ depths → RunsSheet h (parts_at n h held) a depths lasts records →
-    PutRan (plan_in h.shape h.rules (parts_at n h held)) shown a 0 old new r → Prints (run_text h (parts_of h held)) old new r
-run_printed h held {n} {a} {old = old} {new} {r} e few l d f w =
-    let same =
-    ap (λ (x : List ℕ). ran_text (plan_in h.shape h.rules (parts_at n h held)) x a) d
-    ∙ (run_is h (parts_at n h held) f ∙ ap (λ (k : ℕ). run_text h (parts_at k h held)) e) in
+    (h : Heading) (parts : Rooms) {a : Ran} {depths lasts records old new : List ℕ} {r : ℕ} → squares h.shape ≤ program_squares →
+    most_printed ≤ length old → RunsSheet h parts a depths lasts records → PutRan (plan_in h.shape h.rules parts) depths a 0 old new r →
+    Prints (run_text h parts) old new r
+run_printed h parts {old = old} {new} {r} few l f w =
+    let same = run_is h parts f in
     prints l (omega (arith, ap length same, w.fits, few)) (subst (λ (t : List ℕ). Wrote t 0 old new r) same w.wrote)

@@ -12,7 +12,7 @@ use Rattle.sheet.specs.declared.reading.Heading.{Heading}
 use Rattle.sheet.specs.declared.reading.Sheet.{Sheet}
 use Rattle.sheet.specs.declared.reading.Sheet.TheVariants.{Read, Refused}
 use Rattle.answer.specs.Printed.{refused_text, made_text}
-use Rattle.programs.specs.Reading.{empty_rooms}
+use Rattle.programs.specs.Reading.{empty_rooms, sheet_within}
 
 -- "reads at most 65,536 bytes .. and gives 1 above 1,024 squares"
 abbrev pub most_text : ℕ
@@ -43,13 +43,21 @@ sheet_run h held = run_to (plan_in h.shape h.rules held) (given_in h.shape h.rul
 unfoldable pub run_text : Heading → Rooms → List ℕ
 run_text h held = ended_text (plan_in h.shape h.rules held) (sheet_run h held)
 
+-- what a program prints of a text as the reader answers: the refusal alone, or what it prints of the sheet that the text says
+abbrev pub sheet_printed : (Heading → Rooms → List ℕ) → List ℕ → Sheet → List ℕ
+sheet_printed printed s (Read h) = printed h (said s)
+sheet_printed printed s (Refused number line) = refused_text number line
+
 unfoldable pub sheet_text : List ℕ → Sheet → List ℕ
-sheet_text s (Read h) = run_text h (said s)
-sheet_text s (Refused number line) = refused_text number line
+sheet_text s a = sheet_printed run_text s a
 
 -- the program's own rooms
 abbrev pub program_rooms : Rooms
 program_rooms = empty_rooms program_squares
+
+-- of a text, with `meadow`'s limits
+abbrev pub text_printed : (Heading → Rooms → List ℕ) → List ℕ → List ℕ
+text_printed printed s = sheet_printed printed s (sheet_within most_text s program_rooms)
 
 -- "more: 12, line 0"
 unfoldable pub meadow_text : List ℕ → List ℕ

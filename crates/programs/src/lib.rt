@@ -5,12 +5,14 @@
 //   reading   read_within
 //   running   run_sheet
 //   printing  put_ran
+//   printer   Printer, printed_of
 //   meadow    meadow_of
 
 #![tactic(auto)]
 
 pub mod limits;
 pub mod meadow;
+pub mod printer;
 pub mod printing;
 pub mod reading;
 pub mod running;

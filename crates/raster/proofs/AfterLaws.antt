@@ -12,7 +12,7 @@ use borrow.Author.Tests.{le-leb, lt-leb}
 use Rattle.reckon.proofs.TestLaws.{not_both, pick_true, pick_false, and_both, and_false}
 use Rattle.text.specs.Reading.{is_byte, is_digit, digits_of}
 use Rattle.text.specs.declared.reading.Number.{Number}
-use Rattle.text.specs.declared.reading.Number.TheVariants.{Not}
+use Rattle.std.proofs.Common.{Option, None}
 use Rattle.text.proofs.ReadingLaws.{by_lt, digits_here, digits_end}
 use Rattle.text.proofs.RoundTrip.{digits_stop}
 use Rattle.raster.specs.Amounts.{point, with_decimals, up_to_most, decimals_after}
@@ -25,7 +25,7 @@ module _ (places : ℕ) (s : List ℕ) (n q : ℕ) where
   ds = digits_of (drop (q + 1) s)
 
   pub no_point :
-      {v p : ℕ} {r : Number} → is_byte s q point ≡ false → is_digit (get_or s q 0) ≡ false → DecimalsAt s q n places v p →
+      {v p : ℕ} {r : Option Number} → is_byte s q point ≡ false → is_digit (get_or s q 0) ≡ false → DecimalsAt s q n places v p →
       r ≡ up_to_most v p → r ≡ decimals_after places s n q
   unfolding decimals_after
   no_point {v} {p} b d a g =
@@ -35,7 +35,7 @@ module _ (places : ℕ) (s : List ℕ) (n q : ℕ) where
       g ∙ (rw (y, z) (sym (pick_false _ _ b)))
 
   module _ (b : is_byte s q point ≡ true) where
-    pub bare-point : is_digit (get_or s (q + 1) 0) ≡ false → Not ≡ decimals_after places s n q
+    pub bare-point : is_digit (get_or s (q + 1) 0) ≡ false → None ≡ decimals_after places s n q
     unfolding decimals_after
     bare-point d =
         let none = ap length (digits_end s (q + 1) d) in
@@ -47,7 +47,7 @@ module _ (places : ℕ) (s : List ℕ) (n q : ℕ) where
         let z : p ≡ q + 1 + length ds = omega arith in
         ap (λ (k : ℕ). is_digit (get_or s k 0)) z ∙ (ap is_digit (sym (get_or-drop (q + 1) s (length ds) 0)) ∙ digits_stop (drop (q + 1) s))
 
-    pub too_many : {v p : ℕ} → DecimalsAt s (q + 1) n places v p → is_digit (get_or s p 0) ≡ true → Not ≡ decimals_after places s n q
+    pub too_many : {v p : ℕ} → DecimalsAt s (q + 1) n places v p → is_digit (get_or s p 0) ≡ true → None ≡ decimals_after places s n q
     unfolding decimals_after
     too_many {v} {p} a d =
         by_lt places (length ds)
@@ -55,7 +55,7 @@ module _ (places : ℕ) (s : List ℕ) (n q : ℕ) where
         (λ l. not_both d (end-digit l a.end))
 
     pub some_decimals :
-        {v p : ℕ} {r : Number} → is_digit (get_or s (q + 1) 0) ≡ true → DecimalsAt s (q + 1) n places v p →
+        {v p : ℕ} {r : Option Number} → is_digit (get_or s (q + 1) 0) ≡ true → DecimalsAt s (q + 1) n places v p →
         is_digit (get_or s p 0) ≡ false → r ≡ up_to_most v p → r ≡ decimals_after places s n q
     unfolding decimals_after
     some_decimals {v} {p} first a d g =

@@ -11,11 +11,11 @@ use borrow.Author.Tests.{le-leb}
 use Rattle.reckon.specs.Lists.{tabulate}
 use Rattle.reckon.proofs.TestLaws.{pick_true, pick_false, and_both}
 use Rattle.reckon.proofs.ListLaws.{is_tabulate}
-use Rattle.text.specs.Reading.{most_number, is_byte, is_digit, digits_of, value_from, number_at}
+use Rattle.text.specs.Reading.{most_number, is_byte, is_digit, digits_of, value_from, number, number_at}
 use Rattle.text.specs.Writing.{decimal}
 use Rattle.text.specs.Inner.Standing.{StandsAt}
 use Rattle.text.specs.declared.reading.Number.{Number}
-use Rattle.text.specs.declared.reading.Number.TheVariants.{Is, Not}
+use Rattle.std.proofs.Common.{Option, None}
 use native.Mathlib.Nat.{not-suc-le-zero}
 use Rattle.text.proofs.ReadingLaws.{by_lt, digit_is, digit_under}
 use Rattle.text.proofs.WritingLaws.{decimal_small, decimal_large, decimal-short}
@@ -80,7 +80,7 @@ cut_six n = omega arith
 
 -- ---- a number
 
-small_most : (n q : ℕ) → n ≤ most_number → up_to_most n q ≡ Is n q
+small_most : (n q : ℕ) → n ≤ most_number → up_to_most n q ≡ number n q
 unfolding up_to_most
 small_most n q h = pick_true _ _ (le-leb n most_number h)
 
@@ -97,14 +97,14 @@ point-alone : is_digit point ≡ false
 point-alone = digit_under point (omega arith)
 
 -- where the whole number is read, what follows it is looked at
-amount_after : (k : Scale) (s : List ℕ) (p : ℕ) {q v : ℕ} → number_at s p ≡ Is v q → amount_at k s p ≡ decimals_after (places_of k) s v q
+amount_after : (k : Scale) (s : List ℕ) (p : ℕ) {q v : ℕ} → number_at s p ≡ number v q → amount_at k s p ≡ decimals_after (places_of k) s v q
 unfolding amount_at
 amount_after k s p {q} {v} e = rw e
 
 -- what was written, with no digit and no point after it, reads as itself
 pub amount_back :
     (k : Scale) {s : List ℕ} {p q : ℕ} (n : ℕ) → StandsAt s p (amount_text k n) q → is_digit (get_or s q 0) ≡ false →
-    is_byte s q point ≡ false → n ≤ most_number → amount_at k s p ≡ Is n q
+    is_byte s q point ≡ false → n ≤ most_number → amount_at k s p ≡ number n q
 unfolding amount_text decimals_after places_of
 amount_back Whole {s} {p} {q} n a alone dot small =
     amount_after Whole s p (number_back n (record { stands = a; alone = alone; readable = (small, tt) }))
@@ -139,7 +139,7 @@ amount_back Metres {s} {p} {q} n a alone dot small =
 -- a corner: 0 with no decimals is 0
 pub zero_back :
     {s : List ℕ} {p q : ℕ} → StandsAt s p (decimal 0) q → is_digit (get_or s q 0) ≡ false → is_byte s q point ≡ false →
-    amount_at Metres s p ≡ Is 0 q
+    amount_at Metres s p ≡ number 0 q
 unfolding decimals_after places_of with_decimals tabulate value_from
 zero_back {s} {p} {q} a alone dot =
     amount_after Metres s p (number_back 0 (record { stands = a; alone = alone; readable = (omega arith, tt) }))
@@ -186,11 +186,11 @@ amount_short Metres n h =
     )
 
 -- where no whole number is read, there is no number
-pub amount_none : (k : Scale) (s : List ℕ) (p : ℕ) → number_at s p ≡ Not → amount_at k s p ≡ Not
+pub amount_none : (k : Scale) (s : List ℕ) (p : ℕ) → number_at s p ≡ None → amount_at k s p ≡ None
 unfolding amount_at
 amount_none k s p e = rw e
 
 pub amount_known :
-    (k : Scale) (s : List ℕ) (p : ℕ) {places n q : ℕ} {r : Number} → places ≡ places_of k → r ≡ decimals_after places s n q → number_at s p ≡ Is n q →
+    (k : Scale) (s : List ℕ) (p : ℕ) {places n q : ℕ} {r : Option Number} → places ≡ places_of k → r ≡ decimals_after places s n q → number_at s p ≡ number n q →
     r ≡ amount_at k s p
 amount_known k s p {places} {n} {q} e f g = f ∙ (ap (λ (m : ℕ). decimals_after m s n q) e ∙ sym (amount_after k s p g))

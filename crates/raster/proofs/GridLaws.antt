@@ -6,6 +6,7 @@ use mathlib.Core.List.{List, [], ◌∷◌, ◌++◌}
 use Prim.Native.Nat.{ℕ, zero, suc, ◌+◌, ◌≤◌, ◌<◌}
 use native.Mathlib.Nat.{add-zero}
 use native.Mathlib.Omega.{arith}
+use Rattle.std.proofs.Common.{Option, Some, None, Result, Ok, is_some, is_ok}
 use lib.Dec.{ltb, leb}
 use lib.ListN.{length, get_or, drop, drop_of_length-le}
 use borrow.Author.Tests.{lt-ltb, le-leb}
@@ -24,7 +25,7 @@ use Rattle.text.proofs.StandLaws.{stands_first, stands_second, stands_within, by
 use Rattle.text.proofs.JoinedLaws.{start_of, joined_stands}
 use Rattle.text.proofs.RoundTrip.{front_after}
 use Rattle.raster.specs.Amounts.{amount_text}
-use Rattle.raster.specs.Raster.{space, no_data, last_in_row, head_text, entry_text, grid_text, spaces_of, head_of, no_entry, bare_entry, past_gap, parted, entry_at, place_from, entry_from, entry_of, grid_bad}
+use Rattle.raster.specs.Raster.{space, no_data, last_in_row, head_text, entry_text, grid_text, spaces_of, head_of, head_or, next_of, bare_entry, past_gap, parted, entry_at, place_from, entry_from, entry_of, grid_bad}
 use Rattle.raster.specs.Inner.Steps.{read_from, value_text, gap_byte}
 use Rattle.raster.specs.declared.amounts.Scale.{Scale}
 use Rattle.raster.specs.declared.reading.Entry.{Entry}
@@ -36,16 +37,14 @@ use Rattle.raster.proofs.SpaceLaws.{spaces_none, one_space}
 
 -- ---- one square
 
--- entries that were found and say the same
-same_entry :
-    {a b : Bool} {m n p q : ℕ} → a ≡ b → m ≡ n → p ≡ q →
-    ◌≡◌ {A = Entry} (record { found = true; closed = a; value = m; next = p }) (record { found = true; closed = b; value = n; next = q })
-same_entry e f g = λ j. record { found = true; closed = e j; value = f j; next = g j }
-
 -- what square i reads as, where the next one starts at q
-abbrev pub saying : List ℕ → List ℕ → ℕ → ℕ → Entry
-saying marks values i q =
-    record { found = true; closed = closed marks i; value = pick (closed marks i) 0 (get_or values i 0); next = q }
+abbrev pub saying : List ℕ → List ℕ → ℕ → ℕ → Option Entry
+saying marks values i q = Some (record { value = pick (closed marks i) None (Some (get_or values i 0)); next = q })
+
+-- it says the same, wherever the next one starts
+same_saying : (marks values : List ℕ) (i : ℕ) {v : Option ℕ} {p q : ℕ} → v ≡ pick (closed marks i) None (Some (get_or values i 0)) → p ≡ q →
+    Some (record { value = v; next = p }) ≡ saying marks values i q
+same_saying marks values i e f = λ j. Some (record { value = e j; next = f j })
 
 module _ (k : Scale) (columns : ℕ) (marks values : List ℕ) where
   abbrev body : ℕ → List ℕ
@@ -85,14 +84,14 @@ module _ (k : Scale) (columns : ℕ) (marks values : List ℕ) where
       by_test (closed marks i)
       (λ e.
       let b : StandsAt s p no_data q = subst (λ (t : List ℕ). StandsAt s p t q) (value_closed k marks values i e) a in
-      pick_true _ _ (word_stands (stands_within b) b) ∙ same_entry (sym e) (sym (pick_true _ _ e)) (sym b.after))
+      pick_true _ _ (word_stands (stands_within b) b) ∙ same_saying marks values i (sym (pick_true _ _ e)) (sym b.after))
       (λ e.
       let n : ℕ = get_or values i 0 in
       let b : StandsAt s p (amount_text k n) q = subst (λ (t : List ℕ). StandsAt s p t q) (value_open k marks values i e refl) a in
       pick_false _ _ (not_shut n b)
-      ∙ (ap (λ (v : Number). with_number v (no_entry p) (λ m r. record { found = true; closed = false; value = m; next = r }))
+      ∙ (ap (λ (v : Option Number). with_number v None (λ m r. Some (record { value = Some m; next = r })))
       (amount_back k n b o.alone o.dot (h e))
-      ∙ same_entry (sym e) (sym (pick_false _ _ e)) refl))
+      ∙ same_saying marks values i (sym (pick_false _ _ e)) refl))
 
   gap_back :
       {s : List ℕ} {q r : ℕ} (i : ℕ) → StandsAt s q (gap_byte columns i ∷ []) r → spaces_of (drop r s) ≡ 0 → past_gap s (last_in_row columns i) q ≡ r
@@ -107,10 +106,10 @@ module _ (k : Scale) (columns : ℕ) (marks values : List ℕ) where
       pick_false _ _ e ∙ one_space b clear)
 
   parted_back :
-      (s : List ℕ) (p : ℕ) (last : Bool) (i q r : ℕ) → past_gap s last q ≡ r → q < r →
-      parted s p last (saying marks values i q) ≡ saying marks values i r
+      (s : List ℕ) (last : Bool) (i q r : ℕ) → past_gap s last q ≡ r → q < r →
+      parted s last (saying marks values i q) ≡ saying marks values i r
   unfolding parted
-  parted_back s p last i q r e h = pick_true _ _ (ap (ltb q) e ∙ lt-ltb q r h) ∙ same_entry refl refl e
+  parted_back s last i q r e h = pick_true _ _ (ap (ltb q) e ∙ lt-ltb q r h) ∙ same_saying marks values i refl e
 
   entry_back :
       {s : List ℕ} {p r : ℕ} (i : ℕ) → (closed marks i ≡ false → get_or values i 0 ≤ most_number) →
@@ -119,8 +118,8 @@ module _ (k : Scale) (columns : ℕ) (marks values : List ℕ) where
   entry_back {s} {p} {r} i h a clear =
       let first = stands_first (body i) (gap_byte columns i ∷ []) a in
       let second = stands_second (body i) (gap_byte columns i ∷ []) a in
-      ap (parted s p (last_in_row columns i)) (bare_back i h first (over_byte (gap_byte columns i) (gap_low i) second))
-      ∙ parted_back s p (last_in_row columns i) i (p + length (body i)) r (gap_back i second clear) (omega (arith, second.after))
+      ap (parted s (last_in_row columns i)) (bare_back i h first (over_byte (gap_byte columns i) (gap_low i) second))
+      ∙ parted_back s (last_in_row columns i) i (p + length (body i)) r (gap_back i second clear) (omega (arith, second.after))
 
 -- ---- all squares
 
@@ -144,7 +143,7 @@ module _ (k : Scale) (shape : Shape) (marks values : List ℕ) (D : ℕ) (column
   all_stand = back_stands (head_text shape D) (joined (squares shape) texts)
 
   -- the header says the shape and D
-  pub head_read : head_of whole ≡ record { found = true; shape = shape; side = D; next = base }
+  pub head_read : head_of whole ≡ Ok (record { shape = shape; side = D; next = base })
   unfolding grid_text
   head_read = head_back shape D columns-small rows_small D-small (front_stands (head_text shape D) (joined (squares shape) texts))
 
@@ -171,24 +170,24 @@ module _ (k : Scale) (shape : Shape) (marks values : List ℕ) (D : ℕ) (column
   unfolding place_from joined
   place_is zero h = omega arith
   place_is (suc i) h =
-      ap (λ (p : ℕ). (entry_at k whole p (last_in_row shape.columns i)).next) (place_is i (omega arith))
-      ∙ ap (λ (e : Entry). e.next) (read_back i h)
+      ap (λ (p : ℕ). next_of p (entry_at k whole p (last_in_row shape.columns i))) (place_is i (omega arith))
+      ∙ ap (next_of (start i)) (read_back i h)
 
   entry_is : (i : ℕ) → i < squares shape → entry_from k whole base shape.columns i ≡ saying marks values i (start (suc i))
   entry_is i h = ap (λ (p : ℕ). entry_at k whole p (last_in_row shape.columns i)) (place_is i (omega arith)) ∙ read_back i h
 
   all_read : read_from k whole base shape ≡ squares shape
-  all_read = failing_none (squares shape) _ (λ i h. ap (λ (e : Entry). e.found) (entry_is i h))
+  all_read = failing_none (squares shape) _ (λ i h. ap is_some (entry_is i h))
 
   -- what is said of a grid by its header
-  grid_is : (P : Head → Type 0) → P (record { found = true; shape = shape; side = D; next = base }) → P (head_of whole)
+  grid_is : (P : Result Head ℕ → Type 0) → P (Ok (record { shape = shape; side = D; next = base })) → P (head_of whole)
   grid_is P h = subst P (sym head_read) h
 
   -- each square says whether it is closed, and else its number
   pub square_is : (i : ℕ) → i < squares shape → entry_of k whole i ≡ saying marks values i (start (suc i))
   square_is i h =
       grid_is
-      (λ (g : Head). entry_from k whole g.next g.shape.columns i ≡ saying marks values i (start (suc i)))
+      (λ (g : Result Head ℕ). entry_from k whole (head_or g).next (head_or g).shape.columns i ≡ saying marks values i (start (suc i)))
       (entry_is i h)
 
   -- nothing in it is bad
@@ -197,10 +196,10 @@ module _ (k : Scale) (shape : Shape) (marks values : List ℕ) (D : ℕ) (column
   grid_read =
       pick_true _ _
       (grid_is
-      (λ (g : Head).
-      (g.found
-      && (leb (squares g.shape) (read_from k whole g.next g.shape)
-      && leb (length whole) (place_from k whole g.next g.shape.columns (read_from k whole g.next g.shape)))) ≡ true)
+      (λ (g : Result Head ℕ).
+      (is_ok g
+      && (leb (squares (head_or g).shape) (read_from k whole (head_or g).next (head_or g).shape)
+      && leb (length whole) (place_from k whole (head_or g).next (head_or g).shape.columns (read_from k whole (head_or g).next (head_or g).shape)))) ≡ true)
       (rw (all_read, place_is (squares shape) (omega arith))
       (and_both _ _ (le-leb (squares shape) (squares shape) (omega arith))
       (le-leb (length whole) (start (squares shape)) (omega (arith, all_stand.after))))))

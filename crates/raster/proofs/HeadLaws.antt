@@ -10,11 +10,11 @@ use borrow.Author.Tests.{eq-eqb, ne_eqb}
 use Rattle.reckon.proofs.TestLaws.{not_both, pick_true, pick_false, and_right, and_both}
 use Rattle.grid.specs.declared.squares.Shape.{Shape}
 use Rattle.text.specs.Bytes.{bytes_of}
-use Rattle.text.specs.Reading.{newline, most_number, is_byte, is_digit, word_at}
+use Rattle.text.specs.Reading.{newline, most_number, is_byte, is_digit, word_at, number}
 use Rattle.text.specs.Writing.{decimal}
 use Rattle.text.specs.Inner.Standing.{StandsAt}
 use Rattle.text.specs.declared.reading.Number.{Number}
-use Rattle.text.specs.declared.reading.Number.TheVariants.{Is, Not}
+use Rattle.std.proofs.Common.{Option, Some, None, Ok, Err, ok_or}
 use Rattle.text.proofs.ReadingLaws.{by_test, digit_under, byte_here}
 use Rattle.text.proofs.StandLaws.{stands_first, stands_second, stands_within, byte_stands, word_stands}
 use Rattle.raster.specs.Amounts.{point, amount_text, amount_at}
@@ -24,19 +24,29 @@ use Rattle.raster.specs.declared.amounts.Scale.TheVariants.{Metres, Whole}
 use Rattle.raster.proofs.AmountLaws.{BeginsWithDigit, amount_back, zero_back, decimal_begins}
 use Rattle.raster.proofs.SpaceLaws.{spaces_none, one_space, past_more}
 
+-- ---- an answer that is there, or a refusal in its place
+
+pub was_some : {A E : Type 0} {o : Option A} (e : E) {x : A} → Ok x ≡ ok_or o e → o ≡ Some x
+was_some {o = Some y} e h = cc
+was_some {o = None} e h = absurd (let z : ◌≡◌ {A = ℕ} 0 1 = cc in omega arith)
+
+pub was_none : {A E : Type 0} {o : Option A} (e : E) {d : E} → Err d ≡ ok_or o e → (o ≡ None) × (d ≡ e)
+was_none {o = Some y} e h = absurd (let z : ◌≡◌ {A = ℕ} 0 1 = cc in omega arith)
+was_none {o = None} e h = (refl, let z = h in cc)
+
 -- ---- as the readers find it
 
-pub only_none : (n q : ℕ) → (n ≡ 0 → ⊥) → only_zero (Is n q) ≡ Not
+pub only_none : (n q : ℕ) → (n ≡ 0 → ⊥) → only_zero (number n q) ≡ None
 unfolding only_zero
 only_none n q d = pick_false _ _ (ne_eqb n 0 d)
 
-pub only_kept : (n q : ℕ) → n ≡ 0 → only_zero (Is n q) ≡ Is n q
+pub only_kept : (n q : ℕ) → n ≡ 0 → only_zero (number n q) ≡ number n q
 unfolding only_zero
 only_kept n q e = pick_true _ _ (eq-eqb n 0 e)
 
 -- a line, by where its value starts
-module _ (s : List ℕ) (p : ℕ) (word : List ℕ) (value : ℕ → Number) {start : ℕ} (e : start ≡ value_start s p word) where
-  pub head_none : start ≡ p → Not ≡ head_line s p word value
+module _ (s : List ℕ) (p : ℕ) (word : List ℕ) (value : ℕ → Option Number) {start : ℕ} (e : start ≡ value_start s p word) where
+  pub head_none : start ≡ p → None ≡ head_line s p word value
   unfolding head_line
   head_none z =
       by_test (word_at s p word && is_byte s (p + length word) space)
@@ -113,26 +123,26 @@ parts {s} {p} {q} word t a =
 
 module _ {s : List ℕ} {p q : ℕ} (word t : List ℕ) (a : StandsAt s p (head_line_text word t) q) where
   line-back :
-      (value : ℕ → Number) (n : ℕ) → spaces_of (drop (parts word t a).start s) ≡ 0 →
-      value (parts word t a).start ≡ Is n (parts word t a).end →
-      head_line s p word value ≡ Is n q
+      (value : ℕ → Option Number) (n : ℕ) → spaces_of (drop (parts word t a).start s) ≡ 0 →
+      value (parts word t a).start ≡ number n (parts word t a).end →
+      head_line s p word value ≡ number n q
   unfolding head_line line_end_after
   line-back value n clear e =
       let k = parts word t a in
       pick_true _ _ k.worded
       ∙ (ap (λ (x : ℕ). line_end_after s (value x)) (k.after clear)
-      ∙ (ap (line_end_after s) e ∙ (pick_true _ _ k.ended ∙ ap (Is n) k.next)))
+      ∙ (ap (line_end_after s) e ∙ (pick_true _ _ k.ended ∙ ap (number n) k.next)))
 
 module _ {s : List ℕ} {p q : ℕ} (word : List ℕ) where
   whole_line_back :
-      (n : ℕ) → n ≤ most_number → StandsAt s p (head_line_text word (decimal n)) q → head_line s p word (amount_at Whole s) ≡ Is n q
+      (n : ℕ) → n ≤ most_number → StandsAt s p (head_line_text word (decimal n)) q → head_line s p word (amount_at Whole s) ≡ number n q
   unfolding amount_text
   whole_line_back n h a =
       let k = parts word (decimal n) a in
       line-back word (decimal n) a (amount_at Whole s) n (digit_clear (decimal_begins n) k.value)
       (amount_back Whole n k.value k.over.alone k.over.dot h)
 
-  corner_line_back : StandsAt s p (head_line_text word (decimal 0)) q → only_zero (head_line s p word (amount_at Metres s)) ≡ Is 0 q
+  corner_line_back : StandsAt s p (head_line_text word (decimal 0)) q → only_zero (head_line s p word (amount_at Metres s)) ≡ number 0 q
   unfolding only_zero
   corner_line_back a =
       let k = parts word (decimal 0) a in
@@ -141,19 +151,19 @@ module _ {s : List ℕ} {p q : ℕ} (word : List ℕ) where
       (zero_back k.value k.over.alone k.over.dot))
       ∙ pick_true _ _ (eq-eqb 0 0 refl)
 
-  no_data_line_back : StandsAt s p (head_line_text word no_data) q → head_line s p word (no_data_at s) ≡ Is 0 q
+  no_data_line_back : StandsAt s p (head_line_text word no_data) q → head_line s p word (no_data_at s) ≡ number 0 q
   unfolding no_data_at bytes_of
   no_data_line_back a =
       let k = parts word no_data a in
       line-back word no_data a (no_data_at s) 0
       (spaces_none (drop k.start s) (λ z. absurd (omega (arith, sym (ap (λ (l : List ℕ). get_or l 0 0) k.value.text) ∙ z))))
-      (pick_true _ _ (word_stands (stands_within k.value) k.value) ∙ ap (Is 0) (sym k.value.after))
+      (pick_true _ _ (word_stands (stands_within k.value) k.value) ∙ ap (number 0) (sym k.value.after))
 
 -- ---- the header
 
 pub head_back :
     {s : List ℕ} {q : ℕ} (shape : Shape) (D : ℕ) → shape.columns ≤ most_number → shape.rows ≤ most_number → D ≤ most_number →
-    StandsAt s 0 (head_text shape D) q → head_of s ≡ record { found = true; shape = shape; side = D; next = q }
+    StandsAt s 0 (head_text shape D) q → head_of s ≡ Ok (record { shape = shape; side = D; next = q })
 unfolding head_text head_of
 head_back {s} {q} shape D hc hr hd a =
     let t1 : List ℕ = head_line_text (bytes_of "ncols") (decimal shape.columns) in

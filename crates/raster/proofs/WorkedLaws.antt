@@ -8,7 +8,7 @@ use Rattle.text.specs.Bytes.{bytes_of}
 use Rattle.text.specs.Reading.{is_byte, word_at, is_digit, digits_of, value_from, well_formed, number_from, number_at}
 use Rattle.text.specs.Writing.{digits_in, decimal}
 use Rattle.raster.specs.Amounts.{last_digits, amount_text, places_of, with_decimals, up_to_most, decimals_after, amount_at}
-use Rattle.raster.specs.Raster.{head_line_text, head_text, entry_text, grid_text, spaces_of, past_spaces, line_end_after, head_line, only_zero, no_data_at, no_head, head_of, no_entry, bare_entry, past_gap, parted, place_from, line_number, grid_bad}
+use Rattle.raster.specs.Raster.{head_line_text, head_text, entry_text, grid_text, spaces_of, past_spaces, line_end_after, head_line, only_zero, no_data_at, head_of, bare_entry, past_gap, parted, place_from, line_number, grid_bad}
 use Rattle.raster.specs.Worked.{AmountsWorked, SixSquaresWorked, TheirsWorked}
 
 pub amounts_worked : AmountsWorked
@@ -32,7 +32,7 @@ amounts_worked =
     }
 
 pub six_squares_worked : SixSquaresWorked
-unfolding pick all_below first_failing tabulate joined sum_below closed is_byte word_at is_digit digits_of value_from well_formed number_from number_at digits_in decimal last_digits amount_text places_of with_decimals up_to_most decimals_after amount_at head_line_text head_text entry_text grid_text spaces_of past_spaces line_end_after head_line only_zero no_data_at no_head head_of no_entry bare_entry past_gap parted place_from line_number grid_bad bytes_of
+unfolding pick all_below first_failing tabulate joined sum_below closed is_byte word_at is_digit digits_of value_from well_formed number_from number_at digits_in decimal last_digits amount_text places_of with_decimals up_to_most decimals_after amount_at head_line_text head_text entry_text grid_text spaces_of past_spaces line_end_after head_line only_zero no_data_at head_of bare_entry past_gap parted place_from line_number grid_bad bytes_of
 six_squares_worked =
     record {
       metres_written = refl;
@@ -47,7 +47,7 @@ six_squares_worked =
     }
 
 pub theirs_worked : TheirsWorked
-unfolding pick all_below first_failing tabulate sum_below is_byte word_at is_digit digits_of value_from well_formed number_from number_at places_of with_decimals up_to_most decimals_after amount_at spaces_of past_spaces line_end_after head_line only_zero no_data_at no_head head_of no_entry bare_entry past_gap parted place_from line_number grid_bad bytes_of
+unfolding pick all_below first_failing tabulate sum_below is_byte word_at is_digit digits_of value_from well_formed number_from number_at places_of with_decimals up_to_most decimals_after amount_at spaces_of past_spaces line_end_after head_line only_zero no_data_at head_of bare_entry past_gap parted place_from line_number grid_bad bytes_of
 theirs_worked =
     record {
       head = refl;

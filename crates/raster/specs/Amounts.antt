@@ -1,12 +1,11 @@
 -- Document 02, #104: numbers "in metres with exactly six decimals" as they are written, and with "fewer decimals" as they may be read.
 -- Assumes nothing.
-use Rattle.std.specs.Prelude.{◌&&◌, List, [], ◌∷◌, ◌++◌, ℕ, zero, suc, ◌+◌, ◌/◌, ◌%◌, leb, length, get_or, drop}
+use Rattle.std.specs.Prelude.{◌&&◌, List, [], ◌∷◌, ◌++◌, ℕ, zero, suc, ◌+◌, ◌/◌, ◌%◌, leb, length, get_or, drop, Option, None}
 use Rattle.reckon.specs.Tests.{pick}
 use Rattle.reckon.specs.Lists.{tabulate}
-use Rattle.text.specs.Reading.{most_number, is_byte, digits_of, value_from, number_at, with_number}
+use Rattle.text.specs.Reading.{most_number, is_byte, digits_of, value_from, number, number_at, with_number}
 use Rattle.text.specs.Writing.{decimal}
 use Rattle.text.specs.declared.reading.Number.{Number}
-use Rattle.text.specs.declared.reading.Number.TheVariants.{Is, Not}
 use Rattle.raster.specs.declared.amounts.Scale.{Scale}
 use Rattle.raster.specs.declared.amounts.Scale.TheVariants.{Metres, Whole}
 
@@ -37,17 +36,17 @@ unfoldable pub with_decimals : ℕ → ℕ → List ℕ → ℕ
 with_decimals places n ds = value_from n (tabulate places (λ i. get_or ds i 0))
 
 -- a number that ends at q, where it is not above the most
-unfoldable pub up_to_most : ℕ → ℕ → Number
-up_to_most n q = pick (leb n most_number) (Is n q) Not
+unfoldable pub up_to_most : ℕ → ℕ → Option Number
+up_to_most n q = pick (leb n most_number) (number n q) None
 
 -- the whole number n, which ends at q, with what follows it: a point and one or more decimals, not too many; or no point
-unfoldable pub decimals_after : ℕ → List ℕ → ℕ → ℕ → Number
+unfoldable pub decimals_after : ℕ → List ℕ → ℕ → ℕ → Option Number
 decimals_after places s n q =
     pick (is_byte s q point)
     (pick (leb 1 (length (digits_of (drop (q + 1) s))) && leb (length (digits_of (drop (q + 1) s))) places)
-    (up_to_most (with_decimals places n (digits_of (drop (q + 1) s))) (q + 1 + length (digits_of (drop (q + 1) s)))) Not)
+    (up_to_most (with_decimals places n (digits_of (drop (q + 1) s))) (q + 1 + length (digits_of (drop (q + 1) s)))) None)
     (up_to_most (with_decimals places n []) q)
 
 -- the number at p, in micrometres where it is in metres
-unfoldable pub amount_at : Scale → List ℕ → ℕ → Number
-amount_at k s p = with_number (number_at s p) Not (decimals_after (places_of k) s)
+unfoldable pub amount_at : Scale → List ℕ → ℕ → Option Number
+amount_at k s p = with_number (number_at s p) None (decimals_after (places_of k) s)

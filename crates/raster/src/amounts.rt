@@ -65,26 +65,27 @@ fn decimals_at(text: &[u8], at: usize, whole: u32, places: usize) -> Decimals
         value: whole as u64,
         next: at,
     };
-    let mut i: usize = 0;
-    while i < places {
+    for _ in 0..places {
         done = next_decimal(text, done);
-        i += 1;
     }
     done
 }
 
 // A number that is not above the most.
-fn up_to_most(found: Decimals) -> Number
+fn up_to_most(found: Decimals) -> Option<Number>
     ensures { result ≡ up_to_most found.value found.next }
 {
     if MOST_NUMBER < found.value {
-        return Number::Not;
+        return None;
     }
-    Number::Is(found.value as u32, found.next)
+    Some(Number {
+        value: found.value as u32,
+        next: found.next,
+    })
 }
 
 // A whole number that ends at a position, with what follows it: a point and one to so many decimals, or no point.
-fn decimals_after(text: &[u8], at: usize, whole: u32, places: usize) -> Number
+fn decimals_after(text: &[u8], at: usize, whole: u32, places: usize) -> Option<Number>
     requires { (places ≤ most_places) × (is_digit (get_or text.now at 0) ≡ false) }
     ensures { result ≡ decimals_after places text.now whole at }
 {
@@ -92,23 +93,21 @@ fn decimals_after(text: &[u8], at: usize, whole: u32, places: usize) -> Number
         return up_to_most(decimals_at(text, at, whole, places));
     }
     if !is_digit(text, at + 1) {
-        return Number::Not;
+        return None;
     }
     let found = decimals_at(text, at + 1, whole, places);
     if is_digit(text, found.next) {
-        return Number::Not;
+        return None;
     }
     up_to_most(found)
 }
 
 // The number at a position, in micrometres where it is in metres.
-pub(crate) fn amount_at(text: &[u8], at: usize, scale: Scale) -> Number
+pub(crate) fn amount_at(text: &[u8], at: usize, scale: Scale) -> Option<Number>
     ensures { result ≡ amount_at scale text.now at }
 {
-    let Number::Is(whole, next) = number_at(text, at) else {
-        return Number::Not;
-    };
-    decimals_after(text, next, whole, places_of(scale))
+    let whole = number_at(text, at)?;
+    decimals_after(text, whole.next, whole.value, places_of(scale))
 }
 
 // The last digits of a number, as many as are asked for: those before the last, and then the last.

@@ -1,9 +1,9 @@
 // Reading a grid: its header, and its squares one after the other with the position carried, so that each byte is passed once.
-ghost use Rattle.std.specs.Prelude.{◌≡◌, ◌&&◌, ◌+◌, ◌<◌, ◌≤◌, ◌^◌, leb, length};
+ghost use Rattle.std.specs.Prelude.{◌≡◌, true, false, ◌+◌, ◌<◌, ◌≤◌, ◌^◌, MatchResult};
 ghost use Rattle.reckon.specs.Tests.{pick};
 ghost use Rattle.text.specs.Reading.{is_byte, most_number, newline};
 ghost use Rattle.raster.specs.Amounts.{amount_at};
-ghost use Rattle.raster.specs.Raster.{EntryRead, GridJudged, HeadRead, bare_entry, head_line, last_in_row, line_end_after, line_number, no_data_at, no_entry, no_head, only_zero, parted, past_gap, past_spaces};
+ghost use Rattle.raster.specs.Raster.{EntryRead, GridJudged, HeadRead, bare_entry, grid_bad, head_line, last_in_row, line_end_after, line_number, no_data_at, only_zero, past_gap, past_spaces};
 ghost use Rattle.raster.specs.Inner.Steps.{Stops, value_start};
 
 use crate::amounts::{Scale, amount_at};
@@ -15,22 +15,18 @@ pub(crate) const SPACE: u8 = 32;
 // The bytes of `-9999`.
 const NO_DATA_LENGTH: usize = 5;
 
-// What the six lines of a header say, and the position after them; where they cannot be read, the position of the line that stopped it.
+// What the six lines of a header say, and the position after them.
 #[derive(Clone, Copy)]
 pub struct Head {
-    pub found: bool,
     pub shape: Shape,
     pub side: u64,
     pub next: usize,
 }
 
-// What stands for a square: `-9999`, for which 0 is the value, or a number; and the position of the next square. Where it cannot be read, its
-// own position.
+// What stands for a square: its number, or none where it is `-9999`; and the position of the next square.
 #[derive(Clone, Copy)]
 pub struct Entry {
-    pub found: bool,
-    pub closed: bool,
-    pub value: u32,
+    pub value: Option<u32>,
     pub next: usize,
 }
 
@@ -46,26 +42,31 @@ fn past_spaces(text: &[u8], at: usize) -> usize
 }
 
 // A number, and then the end of the line.
-fn line_end_after(text: &[u8], number: Number) -> Number
+fn line_end_after(text: &[u8], number: Option<Number>) -> Option<Number>
     ensures { result ≡ line_end_after text.now number }
 {
-    let Number::Is(value, at) = number else {
-        return Number::Not;
-    };
-    if !byte_is(text, at, NEWLINE) {
-        return Number::Not;
+    let number = number?;
+    let end = number.next;
+    if !byte_is(text, end, NEWLINE) {
+        return None;
     }
-    Number::Is(value, at + 1)
+    Some(Number {
+        next: end + 1,
+        ..number
+    })
 }
 
 // `-9999` as a number is read: 0 stands for it.
-fn no_data_at(text: &[u8], at: usize) -> Number
+fn no_data_at(text: &[u8], at: usize) -> Option<Number>
     ensures { result ≡ no_data_at text.now at }
 {
     if !word_at(text, at, b"-9999") {
-        return Number::Not;
+        return None;
     }
-    Number::Is(0, at + NO_DATA_LENGTH)
+    Some(Number {
+        value: 0,
+        next: at + NO_DATA_LENGTH,
+    })
 }
 
 // Where the value of a line of the header starts: after its word and one or more spaces; the position itself where they are not there.
@@ -83,121 +84,73 @@ fn value_start(text: &[u8], at: usize, word: &[u8]) -> usize
 }
 
 // A line of the header whose value is a number.
-fn head_line(text: &[u8], at: usize, word: &[u8], scale: Scale) -> Number
+fn head_line(text: &[u8], at: usize, word: &[u8], scale: Scale) -> Option<Number>
     ensures { result ≡ head_line text.now at word.now (amount_at scale text.now) }
 {
     let start = value_start(text, at, word);
     if start == at {
-        return Number::Not;
+        return None;
     }
     line_end_after(text, amount_at(text, start, scale))
 }
 
 // A corner's line, whose value is 0.
-fn corner_line(text: &[u8], at: usize, word: &[u8]) -> Number
+fn corner_line(text: &[u8], at: usize, word: &[u8]) -> Option<Number>
     ensures { result ≡ only_zero (head_line text.now at word.now (amount_at Scale.Metres text.now)) }
 {
-    let Number::Is(value, next) = head_line(text, at, word, Scale::Metres) else {
-        return Number::Not;
-    };
-    if value != 0 {
-        return Number::Not;
+    let corner = head_line(text, at, word, Scale::Metres)?;
+    if corner.value != 0 {
+        return None;
     }
-    Number::Is(value, next)
+    Some(corner)
 }
 
 // The line that tells what stands at closed squares.
-fn no_data_line(text: &[u8], at: usize, word: &[u8]) -> Number
+fn no_data_line(text: &[u8], at: usize, word: &[u8]) -> Option<Number>
     ensures { result ≡ head_line text.now at word.now (no_data_at text.now) }
 {
     let start = value_start(text, at, word);
     if start == at {
-        return Number::Not;
+        return None;
     }
     line_end_after(text, no_data_at(text, start))
 }
 
-// No header can be read from a position on.
-fn no_head(at: usize) -> Head
-    ensures { result ≡ no_head at }
-{
-    Head {
-        found: false,
-        shape: Shape {
-            rows: 0,
-            columns: 0,
-        },
-        side: 0,
-        next: at,
-    }
-}
-
-// The six lines of a header.
-pub fn head_of(text: &[u8]) -> Head
+// The six lines of a header; where they cannot be read, the position of the line that stopped it.
+pub fn head_of(text: &[u8]) -> Result<Head, usize>
     ensures { HeadRead text.now result }
 {
-    let Number::Is(columns, a) = head_line(text, 0, b"ncols", Scale::Whole) else {
-        return no_head(0);
-    };
-    let Number::Is(rows, b) = head_line(text, a, b"nrows", Scale::Whole) else {
-        return no_head(a);
-    };
-    let Number::Is(_x, c) = corner_line(text, b, b"xllcorner") else {
-        return no_head(b);
-    };
-    let Number::Is(_y, d) = corner_line(text, c, b"yllcorner") else {
-        return no_head(c);
-    };
-    let Number::Is(side, e) = head_line(text, d, b"cellsize", Scale::Whole) else {
-        return no_head(d);
-    };
-    let Number::Is(_z, f) = no_data_line(text, e, b"NODATA_value") else {
-        return no_head(e);
-    };
-    Head {
-        found: true,
+    let columns = head_line(text, 0, b"ncols", Scale::Whole).ok_or(0usize)?;
+    let rows = head_line(text, columns.next, b"nrows", Scale::Whole).ok_or(columns.next)?;
+    let x = corner_line(text, rows.next, b"xllcorner").ok_or(rows.next)?;
+    let y = corner_line(text, x.next, b"yllcorner").ok_or(x.next)?;
+    let side = head_line(text, y.next, b"cellsize", Scale::Whole).ok_or(y.next)?;
+    let no_data = no_data_line(text, side.next, b"NODATA_value").ok_or(side.next)?;
+    Ok(Head {
         shape: Shape {
-            rows: rows as usize,
-            columns: columns as usize,
+            rows: rows.value as usize,
+            columns: columns.value as usize,
         },
-        side: side as u64,
-        next: f,
-    }
-}
-
-// No square can be read at a position.
-fn no_entry(at: usize) -> Entry
-    ensures { result ≡ no_entry at }
-{
-    Entry {
-        found: false,
-        closed: false,
-        value: 0,
-        next: at,
-    }
+        side: side.value as u64,
+        next: no_data.next,
+    })
 }
 
 // What stands at a position for a square, without what parts it from the next.
-fn bare_entry(text: &[u8], at: usize, scale: Scale) -> Entry
+fn bare_entry(text: &[u8], at: usize, scale: Scale) -> Option<Entry>
     ensures { result ≡ bare_entry scale text.now at }
 {
     if word_at(text, at, b"-9999") {
-        return Entry {
-            found: true,
-            closed: true,
-            value: 0,
+        return Some(Entry {
+            value: None,
             next: at + NO_DATA_LENGTH,
-        };
+        });
     }
-    let Number::Is(value, next) = amount_at(text, at, scale) else {
-        return no_entry(at);
-    };
-    Entry {
-        found: true,
-        closed: false,
-        value: value,
-        next: next,
-    }
+    let amount = amount_at(text, at, scale)?;
+    Some(Entry {
+        value: Some(amount.value),
+        next: amount.next,
+    })
 }
 
 // After a square that ends at a position: a newline after the last of a row, else one or more spaces; the position itself where they are not
@@ -214,30 +167,16 @@ fn past_gap(text: &[u8], last: bool, at: usize) -> usize
     at
 }
 
-// A square at a position that reads as an entry, with what parts it from the next.
-fn with_gap(text: &[u8], at: usize, last: bool, entry: Entry) -> Entry
-    ensures { result ≡ parted text.now at last entry }
-{
-    if !entry.found {
-        return no_entry(at);
-    }
-    let next = past_gap(text, last, entry.next);
-    if next <= entry.next {
-        return no_entry(at);
-    }
-    Entry {
-        found: true,
-        closed: entry.closed,
-        value: entry.value,
-        next: next,
-    }
-}
-
-// The square at a position, the last of its row or not.
-pub fn entry_at(text: &[u8], at: usize, scale: Scale, last: bool) -> Entry
+// The square at a position, the last of its row or not, with what parts it from the next.
+pub fn entry_at(text: &[u8], at: usize, scale: Scale, last: bool) -> Option<Entry>
     ensures { EntryRead scale text.now at last result }
 {
-    with_gap(text, at, last, bare_entry(text, at, scale))
+    let entry = bare_entry(text, at, scale)?;
+    let next = past_gap(text, last, entry.next);
+    if next <= entry.next {
+        return None;
+    }
+    Some(Entry { next, ..entry })
 }
 
 // Whether a square is the last of its row.
@@ -248,37 +187,18 @@ pub(crate) fn last_in_row(columns: usize, square: usize) -> bool
     (square + 1) % columns == 0
 }
 
-// Where the reading of a grid's squares stops: whether all were there, and the position of the first that was not.
-#[derive(Clone, Copy)]
-struct Stop {
-    all: bool,
-    next: usize,
-}
-
-// The squares of a grid from a position on, up to the first that cannot be read.
-fn squares_stop(text: &[u8], at: usize, shape: Shape, scale: Scale) -> Stop
+// The position after a grid's squares, the first of them at a position; where one cannot be read, its own.
+fn squares_end(text: &[u8], at: usize, shape: Shape, scale: Scale) -> Result<usize, usize>
     requires { (shape.rows ≤ most_number) × (shape.columns ≤ most_number) }
-    ensures { Stops scale text.now at shape result.all result.next }
+    ensures { MatchResult result (Stops scale text.now at shape true) (Stops scale text.now at shape false) }
 {
     let columns = shape.columns;
-    let squares = shape.rows * columns;
     let mut next = at;
-    let mut square: usize = 0;
-    while square < squares {
-        let entry = entry_at(text, next, scale, last_in_row(columns, square));
-        if !entry.found {
-            return Stop {
-                all: false,
-                next: next,
-            };
-        }
+    for square in 0..shape.rows * columns {
+        let entry = entry_at(text, next, scale, last_in_row(columns, square)).ok_or(next)?;
         next = entry.next;
-        square += 1;
     }
-    Stop {
-        all: true,
-        next: next,
-    }
+    Ok(next)
 }
 
 // How many lines end at a position: one or none.
@@ -296,35 +216,30 @@ fn line_number(text: &[u8], at: usize) -> usize
     ensures { result ≡ line_number text.now at }
 {
     let mut line: usize = 1;
-    let mut i: usize = 0;
-    while i < at {
+    for i in 0..at {
         line += line_ends(text, i);
-        i += 1;
     }
     line
 }
 
-// Whether a header was read, all squares after it, and the text ends there.
-fn all_read(text: &[u8], found: bool, stop: Stop) -> bool
-    ensures { result ≡ (found && (stop.all && leb (length text.now) stop.next)) }
+// A header is read, all squares after it, and the text ends there; else where the reading stops.
+fn all_read(text: &[u8], scale: Scale) -> Result<(), usize>
+    ensures { MatchResult result (λ u. grid_bad scale text.now ≡ 0) (λ at. grid_bad scale text.now ≡ line_number text.now at) }
 {
-    if !found {
-        return false;
+    let head = head_of(text)?;
+    let end = squares_end(text, head.next, head.shape, scale)?;
+    if end < text.len() {
+        return Err(end);
     }
-    if !stop.all {
-        return false;
-    }
-    text.len() <= stop.next
+    Ok(())
 }
 
 // The line of a grid that cannot be read, 0 where all can.
 pub fn grid_bad(text: &[u8], scale: Scale) -> usize
     ensures { GridJudged scale text.now result }
 {
-    let head = head_of(text);
-    let stop = squares_stop(text, head.next, head.shape, scale);
-    if all_read(text, head.found, stop) {
-        return 0;
+    match all_read(text, scale) {
+        Ok(()) => 0,
+        Err(at) => line_number(text, at),
     }
-    line_number(text, stop.next)
 }

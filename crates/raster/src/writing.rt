@@ -102,10 +102,8 @@ fn put_entries(
     let columns = shape.columns;
     let squares = squares_of(shape);
     let mut next = at;
-    let mut square: usize = 0;
-    while square < squares {
+    for square in 0..squares {
         next = put_entry(room, next, columns, marks, values, square, scale);
-        square += 1;
     }
     next
 }

@@ -1,4 +1,4 @@
--- Laws of a root's places, the powers of ten: one place up and one down, that what the search forms with them fits, and where it begins and ends.
+-- Laws of a root's places, the powers of ten: one place up and one down, that what the search forms with them fits, and where it begins.
 -- Assumes nothing.
 use mathlib.Core.Path.{◌≡◌, refl, sym, ◌∙◌, ap, subst}
 use Prim.Native.Nat.{ℕ, zero, suc, ◌+◌, ◌*◌, ◌/◌, ◌^◌, ◌≤◌, ◌<◌}
@@ -6,7 +6,6 @@ use native.Mathlib.Nat.{le_trans, lt_of_le_of_lt, lt_of_lt_of_le, lt_of_not-le, 
 use native.Mathlib.Decide.{ℕ_discrete}
 use native.Mathlib.Omega.{arith}
 use lib.Pow.{pow-add}
-use Rattle.reckon.specs.Roots.{Root}
 use Rattle.reckon.specs.Inner.RootSearch.{SmallPower, Asked, PowerOfTen, Place, Above, Raised}
 use Rattle.reckon.proofs.RootLaws.{pow_cancel, zero_pow}
 
@@ -110,9 +109,3 @@ none_raised {p} {n} a h = record { fits = zero_pow n a.power; full = rw zero-add
 -- at a place above the root's places there is no digit to raise
 pub no_digit : {p n place above root : ℕ} → Above p n above → above ≤ place → root ^ p ≤ n → Raised p n place root
 no_digit {p} a h fits = record { fits = fits; full = lt_of_lt_of_le a.beyond (pow-le-pow_left (omega arith) p) }
-
--- with the digit of the ones raised, the root is found
-pub all_raised : {p n place root : ℕ} → Place p place → place ≤ 1 → Raised p n place root → Root p n root
-all_raised {p} {n} {place} {root} t h r =
-    let one : place ≡ 1 = omega (arith, ten_pos t.tens) in
-    record { low = r.fits; high = subst (λ (x : ℕ). n < (root + x) ^ p) one r.full }

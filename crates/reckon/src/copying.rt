@@ -1,4 +1,4 @@
-// Numbers copied into a room: the one loop for all crates above.
+// Numbers copied into a room: the one copy for all crates above.
 ghost use Rattle.std.specs.Prelude.{◌+◌, ◌≤◌, length};
 ghost use Rattle.reckon.specs.Copying.{Copied};
 
@@ -7,10 +7,5 @@ pub fn copy_into(from: &[u32], room: &mut [u32], at: usize)
     requires { at + length from.now ≤ length room.old }
     ensures { Copied from.now room.old at room.new }
 {
-    let count = from.len();
-    let mut i = 0;
-    while i < count {
-        room[at + i] = from[i];
-        i += 1;
-    }
+    room[at..at + from.len()].copy_from_slice(from);
 }

@@ -1,23 +1,17 @@
 // Small numbers: the lesser and the greater of two, an element read as a call, a part of a number.
-ghost use Rattle.std.specs.Prelude.{◌≡◌, ◌*◌, ◌<◌, ◌^◌, length};
+ghost use Rattle.std.specs.Prelude.{◌*◌, ◌<◌, ◌^◌, length};
 ghost use Rattle.reckon.specs.Numbers.{Lesser, Greater, NumberAt, PartOf};
 
 pub fn lesser(a: u64, b: u64) -> u64
     ensures { Lesser a b result }
 {
-    if a < b { a } else { b }
+    a.min(b)
 }
 
 pub fn greater(a: u64, b: u64) -> u64
     ensures { Greater a b result }
 {
-    if a < b { b } else { a }
-}
-
-fn wide(x: u32) -> u64
-    ensures { result ≡ x }
-{
-    x as u64
+    a.max(b)
 }
 
 // The number at a place of a list, widened.
@@ -25,7 +19,7 @@ pub fn number(list: &[u32], at: usize) -> u64
     requires { at < length list.now }
     ensures { NumberAt list.now at result }
 {
-    wide(list[at])
+    u64::from(list[at])
 }
 
 // The part x / y of d, held to d. The product x * d is formed only where x is below y.

@@ -56,8 +56,7 @@ pub(crate) const HOUR: u64 = 3_600_000;
 fn row_ran(from: u64, to: u64, t: u64) -> u64
     ensures { result ≡ ran from to t }
 {
-    let end = lesser(t, to);
-    if from < end { end - from } else { 0 }
+    lesser(t, to).saturating_sub(from)
 }
 
 // What the row whose from, to and amount stand at a place has table_gives by clock t.
@@ -76,12 +75,9 @@ pub fn rain_by(rows: &[u32], t: u64) -> u64
     requires { Fits rain_kind rows.now t }
     ensures { RainBy rows.now t result }
 {
-    let n = rows.len() / RAIN_WIDTH;
     let mut sum: u64 = 0;
-    let mut j: usize = 0;
-    while j < n {
+    for j in 0..rows.len() / RAIN_WIDTH {
         sum += row_gives(rows, RAIN_WIDTH * j, t);
-        j += 1;
     }
     sum / HOUR
 }
@@ -114,12 +110,9 @@ pub fn inflow_by(rows: &[u32], r: u64, c: u64, side: u64, t: u64) -> u64
     requires side_nonzero { (0 < side) × (side ≤ most_side) }
     ensures { InflowBy rows.now r c side t result }
 {
-    let n = rows.len() / INFLOW_WIDTH;
     let mut sum: u64 = 0;
-    let mut j: usize = 0;
-    while j < n {
+    for j in 0..rows.len() / INFLOW_WIDTH {
         sum += inflow_row(rows, j, r, c, t);
-        j += 1;
     }
     sum / (side * side)
 }
@@ -155,12 +148,9 @@ pub fn inflow_added(rows: &[u32], r: u64, c: u64, side: u64, start: u64, end: u6
     requires start_le_end { (start ≤ end) × (0 < side) × (side ≤ most_side) }
     ensures { InflowAdded rows.now r c side start end result }
 {
-    let n = rows.len() / INFLOW_WIDTH;
     let mut sums = Sums { start: 0, end: 0 };
-    let mut j: usize = 0;
-    while j < n {
+    for j in 0..rows.len() / INFLOW_WIDTH {
         sums = sums_with(sums, rows, j, r, c, start, end);
-        j += 1;
     }
     sums.end / (side * side) - sums.start / (side * side)
 }
@@ -193,12 +183,10 @@ fn table_fine(kind: Kind, rows: &[u32]) -> bool
     if MOST_TABLE_ROWS < n {
         return false;
     }
-    let mut j: usize = 0;
-    while j < n {
+    for j in 0..n {
         if !row_fine(kind.most, rows, width * j + kind.lead) {
             return false;
         }
-        j += 1;
     }
     true
 }

@@ -9,7 +9,7 @@ use reckon::numbers::lesser;
 pub fn drop_to(own: u64, neighbour: u64) -> u64
     ensures { DropTo own neighbour result }
 {
-    if neighbour < own { own - neighbour } else { 0 }
+    own.saturating_sub(neighbour)
 }
 
 // The drop off the grid from an exit: the surface beyond it goes on at the edge slope.

@@ -7,7 +7,7 @@ use reckon::ranges::{
 
 // square_side is D in m; tolerance is q in ten-thousandths; shortest, longest and update (U) are in ms; edge is e, the surface slope
 // beyond an exit, in ten-thousandths; edition is 1 for document 01's rule, 2 for Manning's formula in each direction, 3 for document
-// 01's rule without the limit by the least drop and the last leaving.
+// 01's rule without the limit by the least drop and the last leaving: a number, since `rules_fine` answers of one that is none of them.
 #[derive(Clone, Copy)]
 pub struct Rules {
     pub square_side: u64,

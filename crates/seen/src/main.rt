@@ -84,8 +84,7 @@ fn tell(rt: &impl Print, sight: Sight) {
 // The arrow of each square.
 fn tell_arrows(rt: &impl Print, run: Run, depths: &[u32], records: &[u32]) {
     let marks = MARKS;
-    let mut square: usize = 0;
-    while square < 9 {
+    for square in 0..9 {
         numbered(rt, b"square ", square as u64);
         words(rt, b" ");
         tell(
@@ -101,7 +100,6 @@ fn tell_arrows(rt: &impl Print, run: Run, depths: &[u32], records: &[u32]) {
                 square % 3,
             ),
         );
-        square += 1;
     }
 }
 

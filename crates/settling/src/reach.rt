@@ -67,14 +67,12 @@ pub(crate) fn all_fit(
 {
     let rows = shape.rows;
     let columns = shape.columns;
-    let mut row = 0;
     let mut first = 0;
-    while row < rows {
+    for row in 0..rows {
         let columns_reached = reached(worked, senders, row);
         if !row_fits(shape, marks, first, columns_reached, room) {
             return false;
         }
-        row += 1;
         first += columns;
     }
     true
@@ -137,10 +135,8 @@ fn cover_row(shape: Shape, marks: &[u8], from: &[u32], first: usize, reached: u6
         return;
     }
     let columns = shape.columns;
-    let mut column = 0;
-    while column < columns {
+    for column in 0..columns {
         cover_one(marks, from, first + column, list);
-        column += 1;
     }
 }
 
@@ -161,14 +157,12 @@ pub(crate) fn write_water(
 {
     let rows = shape.rows;
     let columns = shape.columns;
-    let mut row = 0;
     let mut first = 0;
-    while row < rows {
+    for row in 0..rows {
         let columns_worked = worked[row];
         write_row(shape, marks, left, first, columns_worked, lasts);
         let columns_reached = reached(worked, senders, row);
         cover_row(shape, marks, room, first, columns_reached, depths);
-        row += 1;
         first += columns;
     }
 }

@@ -27,12 +27,9 @@ const MOST_LOST: u64 = (MOST_SQUARES as u64) * (MOST_DEPTH as u64);
 fn joined(list: &[u32]) -> u32
     ensures { result ≡ joined_all list.now }
 {
-    let count = list.len();
     let mut all: u32 = 0;
-    let mut i = 0;
-    while i < count {
-        all = all | list[i];
-        i += 1;
+    for number in list {
+        all |= *number;
     }
     all
 }

@@ -198,9 +198,8 @@ pub(crate) fn spread(
     let rows = shape.rows;
     let columns = shape.columns;
     let mut lost = Lost { off: 0, soaked: 0 };
-    let mut row = 0;
     let mut first = 0;
-    while row < rows {
+    for row in 0..rows {
         lost = spread_row(
             shape,
             marks,
@@ -212,7 +211,6 @@ pub(crate) fn spread(
             lost,
             room,
         );
-        row += 1;
         first += columns;
     }
     lost

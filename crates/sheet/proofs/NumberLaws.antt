@@ -1,7 +1,7 @@
 -- Laws of the numbers of a sheet whose shape and rooms are good: its checks give 2 to 5 or nothing, since the rooms have one number a
 -- square, the run is a fresh one, and its room holds one record.
 -- Assumes nothing.
-use mathlib.Core.Path.{◌≡◌, refl, ◌∙◌}
+use mathlib.Core.Path.{◌≡◌, refl, ap, ◌∙◌}
 use mathlib.Core.Bool.{Bool, true, false}
 use mathlib.Core.List.{List, [], ◌∷◌}
 use Prim.Native.Nat.{ℕ}
@@ -19,7 +19,7 @@ use Rattle.ledger.specs.Record.{room_slots}
 use Rattle.ledger.specs.Checks.{one_each}
 use Rattle.checks.specs.Refusals.{check_refusals}
 use Rattle.checks.specs.Fresh.{fresh_run}
-use Rattle.sheet.specs.Lines.{run_line, as_run}
+use Rattle.sheet.proofs.KindLaws.{run_side}
 use Rattle.sheet.specs.Sheet.{Rooms, rooms_fine, line_one, line_two, shape_of, plan_in, no_records, cells_filled, said, checks_in, checks_of}
 use Rattle.sheet.proofs.JudgeLaws.{one_slot}
 use Rattle.sheet.proofs.RunLaws.{ring_fresh}
@@ -57,8 +57,8 @@ module _ (s : List ℕ) (lent : Rooms) (f : rooms_fine (shape_of s) (line_one s)
   zeros = length-replicate (squares (shape_of s)) 0
 
   side-fine : side_fine (line_two s).rules.square_side ≡ true
-  unfolding rooms_fine run_line as_run
-  side-fine = (every_each _ f).1.0
+  unfolding rooms_fine
+  side-fine = ap side_fine (run_side s _ _) ∙ (every_each _ f).1.0
 
   abbrev lent_tests : List Bool
   lent_tests =

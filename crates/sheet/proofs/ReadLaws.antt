@@ -1,21 +1,23 @@
 -- Laws of a sheet's text: each line starts where the one before it ends, so that the first bad line is the one at which reading stops.
 -- Assumes nothing.
 use mathlib.Core.Path.{◌≡◌, refl, sym, ap, subst, ◌∙◌}
-use mathlib.Core.Bool.{true, false}
+use mathlib.Core.Bool.{true}
 use mathlib.Core.List.{List}
 use Prim.Native.Nat.{ℕ, ◌+◌, ◌≤◌, ◌<◌}
 use native.Mathlib.Omega.{arith}
+use Rattle.std.proofs.Common.{Option, Some, None, is_some, option_map}
 use lib.Dec.{leb}
 use lib.ListN.{length}
 use borrow.Author.Tests.{le-leb, lt-leb}
 use Rattle.reckon.specs.Tests.{pick}
-use Rattle.reckon.proofs.TestLaws.{refusal_here, refusal_later, passed_refusal, failing_le}
+use Rattle.reckon.proofs.TestLaws.{not_both, refusal_here, refusal_later, passed_refusal, failing_le}
 use Rattle.reckon.specs.Tables.{rain_kind, inflow_kind}
 use Rattle.grid.specs.Squares.{squares}
-use Rattle.text.specs.Reading.{next_line, line_from}
+use Rattle.text.specs.Reading.{line_of, next_line, line_from, LineOf}
 use Rattle.text.specs.Inner.Standing.{plain}
+use Rattle.text.specs.declared.reading.Fields.{Fields}
 use Rattle.sheet.specs.Lines.{grid_word, run_word, rain_word, inflow_word, grid_line, run_line, as_grid, as_run, grid_fields, run_fields}
-use Rattle.sheet.specs.Sheet.{Cells, line_two, shape_of, cells_at, cells_read, rain_at, inflow_at, after_all, first_cell, bad_line, cells_filled}
+use Rattle.sheet.specs.Sheet.{Cells, grid_or, run_or, line_one, has_two, line_two, shape_of, cells_at, cells_read, rain_at, inflow_at, after_all, first_cell, bad_line, cells_filled}
 use Rattle.sheet.specs.Inner.Reading.{CellsRead, RowsCounted, TextRead}
 use Rattle.sheet.specs.declared.lines.GridLine.{GridLine}
 use Rattle.sheet.specs.declared.lines.RunLine.{RunLine}
@@ -40,47 +42,55 @@ unfolding plain pick
 plain_inflow = refl
 
 -- line 1 and line 2 end with their lines
-grid_lined : (s : List ℕ) → (grid_line s).found ≡ true → Lined s 0 (grid_line s).next
+grid_lined : (s : List ℕ) {top : GridLine} → Some top ≡ grid_line s → Lined s 0 top.next
 unfolding grid_line as_grid
-grid_lined s t = row_lined s 0 grid_word grid_fields (omega arith) plain-grid refl t
+grid_lined s {top} e = go (line_of s 0 grid_word grid_fields) refl e
+  where
+    go : (f : Option Fields) → LineOf s 0 grid_word grid_fields f → Some top ≡ option_map as_grid f → Lined s 0 top.next
+    go (Some f) q e =
+        subst (λ (k : ℕ). Lined s 0 k) (sym (ap (λ (g : Option GridLine). (grid_or g).next) e))
+        (row_lined s 0 grid_word grid_fields (omega arith) plain-grid q)
+    go None q e = not_both refl (ap is_some e)
 
-run_lined : (s : List ℕ) (p D : ℕ) → (run_line s p D).found ≡ true → Lined s p (run_line s p D).next
+run_lined : (s : List ℕ) (p D : ℕ) {run : RunLine} → Some run ≡ run_line s p D → Lined s p run.next
 unfolding run_line as_run
-run_lined s p D t = row_lined s p run_word run_fields (omega arith) plain-run refl t
+run_lined s p D {run} e = go (line_of s p run_word run_fields) refl e
+  where
+    go : (f : Option Fields) → LineOf s p run_word run_fields f → Some run ≡ option_map (as_run D) f → Lined s p run.next
+    go (Some f) q e =
+        subst (λ (k : ℕ). Lined s p k) (sym (ap (λ (g : Option RunLine). (run_or D g).next) e))
+        (row_lined s p run_word run_fields (omega arith) plain-run q)
+    go None q e = not_both refl (ap is_some e)
 
 unread : {s : List ℕ} {b : Body} {before after : Cells} {k : ℕ} → b.bad ≡ k → (k ≡ 0 → ⊥) → k ≡ bad_line s → TextRead s b before after
 unread h d e = record { bad_is = h ∙ e; body_is = λ z. absurd (d (sym h ∙ z)); rooms_are = λ z. absurd (d (sym h ∙ z)) }
 
--- lines 1 and 2, of which line 1 was found
-pub record HeadRead (s : List ℕ) (top : GridLine) (run : RunLine) : Type 0 where
-  pub grid_is : top ≡ grid_line s
-  pub grid_found : top.found ≡ true
-  pub run_is : run ≡ run_line s top.next top.side
+-- line 1 was found
+module _ (s : List ℕ) {top : GridLine} (grid_is : Some top ≡ grid_line s) where
+  top_is : top ≡ line_one s
+  top_is = ap grid_or grid_is
 
-module _ {s : List ℕ} {top : GridLine} {run : RunLine} (k : HeadRead s top run) where
   one_lined : Lined s 0 top.next
-  one_lined = subst (λ (g : GridLine). Lined s 0 g.next) (sym k.grid_is) (grid_lined s (subst (λ (g : GridLine). g.found ≡ true) k.grid_is k.grid_found))
+  one_lined = grid_lined s grid_is
 
   one_next : top.next ≡ line_from s 0 1
   unfolding line_from
   one_next = sym (lined_next one_lined)
 
-  two_is : run ≡ line_two s
-  two_is =
-      k.run_is
-      ∙ (ap (λ (g : GridLine). run_line s top.next g.side) k.grid_is ∙ ap (λ (p : ℕ). run_line s p (grid_line s).side) one_next)
+  two_at : run_line s top.next top.side ≡ run_line s (line_from s 0 1) (line_one s).side
+  two_at = ap (λ (g : GridLine). run_line s top.next g.side) top_is ∙ ap (λ (p : ℕ). run_line s p (line_one s).side) one_next
 
-  pub body_run : run.found ≡ false → {b : Body} {before after : Cells} → b.bad ≡ 2 → TextRead s b before after
+  pub body_run : None ≡ run_line s top.next top.side → {b : Body} {before after : Cells} → b.bad ≡ 2 → TextRead s b before after
   unfolding bad_line
-  body_run f h =
-      unread h (λ z. omega (arith, z))
-      (sym (refusal_here 2 _ (subst (λ (g : RunLine). g.found ≡ false) two_is f)))
+  body_run f h = unread h (λ z. omega (arith, z)) (sym (refusal_here 2 _ (sym (ap is_some (f ∙ two_at)))))
 
-  module _ (f : run.found ≡ true) where
+  -- and so was line 2
+  module _ {run : RunLine} (run_is : Some run ≡ run_line s top.next top.side) where
+    two_is : run ≡ line_two s
+    two_is = ap (run_or (line_one s).side) (run_is ∙ two_at)
+
     two_lined : Lined s top.next run.next
-    two_lined =
-        subst (λ (g : RunLine). Lined s top.next g.next) (sym k.run_is)
-        (run_lined s top.next top.side (subst (λ (g : RunLine). g.found ≡ true) k.run_is f))
+    two_lined = run_lined s top.next top.side run_is
 
     two_next : run.next ≡ cells_at s
     unfolding line_from
@@ -89,17 +99,17 @@ module _ {s : List ℕ} {top : GridLine} {run : RunLine} (k : HeadRead s top run
     pub two_low : 2 ≤ run.next
     two_low = omega (arith, lined_forth one_lined, lined_forth two_lined)
 
-    two_found : (line_two s).found ≡ true
-    two_found = subst (λ (g : RunLine). g.found ≡ true) two_is f
+    two_found : has_two s ≡ true
+    two_found = sym (ap is_some (run_is ∙ two_at))
 
     module _ {cells : Scan} {before after : Cells} (c : CellsRead s run.next top.shape cells before after) where
       cells_are : CellsRead s (cells_at s) (shape_of s) cells before after
       cells_are =
           subst (λ (p : ℕ). CellsRead s p (shape_of s) cells before after) two_next
-          (subst (λ (g : GridLine). CellsRead s run.next g.shape cells before after) k.grid_is c)
+          (subst (λ (g : GridLine). CellsRead s run.next g.shape cells before after) top_is c)
 
       shape_same : squares top.shape ≡ squares (shape_of s)
-      shape_same = ap (λ (g : GridLine). squares g.shape) k.grid_is
+      shape_same = ap (λ (g : GridLine). squares g.shape) top_is
 
       pub body_cells : cells.count < squares top.shape → {b : Body} → b.bad ≡ cells.count + first_cell → TextRead s b before after
       unfolding bad_line

@@ -5,17 +5,17 @@ use mathlib.Core.Bool.{Bool, true, false}
 use mathlib.Core.List.{List}
 use Prim.Native.Nat.{ℕ, ◌+◌, ◌*◌, ◌/◌, ◌%◌, ◌≤◌, ◌<◌}
 use native.Mathlib.Nat.{not-suc-le-zero, mul-suc, mul-le-mul_left}
-use native.Mathlib.Numerals.{add-one}
 use native.Mathlib.Decide.{ℕ_discrete}
 use native.Mathlib.Omega.{arith}
+use Rattle.std.proofs.Common.{Option, Some, None, is_some}
 use lib.Dec.{eqb}
 use lib.ListN.{length, set, take}
 use lib.Seq.{length-take-le}
 use borrow.Author.Count.{below_more}
 use Rattle.reckon.specs.Tests.{pick, first_failing}
 use Rattle.reckon.specs.Lists.{filled, placed}
-use Rattle.reckon.proofs.TestLaws.{not_both, pick_false, no_more, failing_at, failing_none, failing_before}
-use Rattle.reckon.proofs.ListLaws.{length-tabulate, length-filled, filled_none, filled_store, filled_keep, joined_none, joined_more, length-joined, length-placed}
+use Rattle.reckon.proofs.TestLaws.{not_both, pick_false, failing_at, failing_none, failing_before}
+use Rattle.reckon.proofs.ListLaws.{length-tabulate, filled_none, filled_store, filled_keep, joined_none, joined_more, length-joined}
 use Rattle.grid.specs.Squares.{squares}
 use Rattle.grid.specs.declared.squares.Shape.{Shape}
 use Rattle.text.specs.Reading.{Reading, most_fields, line_of, next_line, line_from, padded, as_fields, read_line}
@@ -25,10 +25,10 @@ use Rattle.text.specs.declared.reading.Fields.{Fields}
 use Rattle.text.proofs.LineLaws.{line_next}
 use Rattle.text.proofs.WritingLaws.{placed_both, placed_none}
 use Rattle.sheet.specs.Lines.{cell_line}
-use Rattle.sheet.specs.Sheet.{Cells, cell_from, cells_read, row_line, rows_read, table_rows, cells_rooms, closed_from, cells_filled}
+use Rattle.sheet.specs.Sheet.{Cells, cell_at, has_cell, cell_or, cell_from, cells_read, row_at, has_row, fields_or, row_line, rows_read, table_rows, cells_rooms, closed_from, cells_filled}
 use Rattle.sheet.specs.Inner.Reading.{CellsRead, RowsCounted}
 use Rattle.sheet.specs.declared.lines.CellLine.{CellLine}
-use Rattle.sheet.proofs.KindLaws.{Lined, lined_next, lined_forth, lined_inside, row_lined, cell_ends}
+use Rattle.sheet.proofs.KindLaws.{Lined, lined_next, lined_forth, lined_inside, row_lined, Ends, cell_ends}
 
 -- ---- lines that were read one after the other
 
@@ -74,7 +74,7 @@ cells_same e f g r h = go e f g r h
 
 -- the first squares' lines were read, and the rooms are filled with them
 pub record Filling (s : List ℕ) (p columns next i : ℕ) (old new : Cells) : Type 0 where
-  pub lines : Passed s p (λ k. (cell_from s p columns k).found) next i
+  pub lines : Passed s p (has_cell s p columns) next i
   pub rooms_are : new ≡ cells_filled s p columns i old
 
 -- a line's numbers are stored, its bed, roughness, rate and depth where it is not closed
@@ -97,51 +97,24 @@ pub filling_none : (s : List ℕ) (p columns : ℕ) (old : Cells) → Filling s 
 unfolding cells_filled
 filling_none s p columns old =
     record {
-      lines = passed_none s p (λ j. (cell_from s p columns j).found);
+      lines = passed_none s p (has_cell s p columns);
       rooms_are = cells_same (filled_none _ _ _) (filled_none _ _ _) (filled_none _ _ _) (filled_none _ _ _) (filled_none _ _ _);
     }
 
 module _ (s : List ℕ) (p columns : ℕ) {next i : ℕ} {old new : Cells} (a : Filling s p columns next i old new) where
-  -- a room is as long as it was
-  long :
-      (room : Cells → List ℕ) (skipped : ℕ → Bool) (f : ℕ → ℕ) → room (cells_filled s p columns i old) ≡ filled i skipped f (room old) →
-      length (room new) ≡ length (room old)
-  long room skipped f e =
-      ap (λ (r : Cells). length (room r)) a.rooms_are ∙ (ap length e ∙ length-filled i skipped f (room old))
+  cell_here : cell_line s next (i / columns) (i % columns) ≡ cell_at s p columns i
+  cell_here = ap (λ (q : ℕ). cell_line s q (i / columns) (i % columns)) a.lines.here
 
-  pub long_marks : length new.marks ≡ length old.marks
-  unfolding cells_filled
-  long_marks = long (λ r. r.marks) _ _ refl
-
-  pub long_beds : length new.beds ≡ length old.beds
-  unfolding cells_filled
-  long_beds = long (λ r. r.beds) _ _ refl
-
-  pub long_roughness : length new.roughness ≡ length old.roughness
-  unfolding cells_filled
-  long_roughness = long (λ r. r.roughness) _ _ refl
-
-  pub long_rates : length new.rates ≡ length old.rates
-  unfolding cells_filled
-  long_rates = long (λ r. r.rates) _ _ refl
-
-  pub long_depths : length new.depths ≡ length old.depths
-  unfolding cells_filled
-  long_depths = long (λ r. r.depths) _ _ refl
-
-  module _ {c : CellLine} (e : c ≡ cell_line s next (i / columns) (i % columns)) where
+  module _ {c : CellLine} (e : Some c ≡ cell_line s next (i / columns) (i % columns)) where
     this : c ≡ cell_from s p columns i
-    this = e ∙ ap (λ (q : ℕ). cell_line s q (i / columns) (i % columns)) a.lines.here
+    this = ap cell_or (e ∙ cell_here)
 
-    pub filling_more :
-        {after : Cells} → c.found ≡ true → Within i old → Stored c i new after → Filling s p columns c.next (i + 1) old after
+    pub filling_more : {after : Cells} → Within i old → Stored c i new after → Filling s p columns c.next (i + 1) old after
     unfolding cells_filled
-    filling_more {after} t in-old w =
-        let lined : Lined s next c.next =
-        subst (λ (z : CellLine). Lined s next z.next) (sym e)
-        (cell_ends s next (i / columns) (i % columns) (subst (λ (z : CellLine). z.found ≡ true) e t)) in
+    filling_more {after} in-old w =
+        let lined : Lined s next c.next = subst (Ends s next) (sym e) (cell_ends s next (i / columns) (i % columns)) in
         record {
-          lines = passed_more s p (λ j. (cell_from s p columns j).found) a.lines (subst (λ (z : CellLine). z.found ≡ true) this t) lined;
+          lines = passed_more s p (has_cell s p columns) a.lines (sym (ap is_some (e ∙ cell_here))) lined;
           rooms_are =
               cells_same
               (stored (λ j. false) (λ j. (cell_from s p columns j).mark) old.marks i in-old.marks
@@ -162,98 +135,71 @@ module _ (s : List ℕ) (p columns : ℕ) {next i : ℕ} {old new : Cells} (a : 
             stored (closed_from s p columns) (λ j. number (cell_from s p columns j)) room i h g (ap number this)
             (ap (λ (z : CellLine). eqb z.mark 0) this) w
 
-    pub filling_stop :
-        (shape : Shape) → columns ≡ shape.columns → i < squares shape → c.found ≡ false →
-        CellsRead s p shape (record { count = i; next = next }) old new
-    unfolding cells_read
-    filling_stop shape h l f =
-        record {
-          count_is =
-              subst (λ (w : ℕ). i ≡ first_failing (squares shape) (λ j. (cell_from s p w j).found)) h
-              (sym
-              (failing_at (squares shape) (λ j. (cell_from s p columns j).found) i l a.lines.so_far
-              (subst (λ (z : CellLine). z.found ≡ false) this f)));
-          next_is = a.lines.here;
-          rooms_are = subst (λ (w : ℕ). new ≡ cells_filled s p w i old) h a.rooms_are;
-          passed = a.lines.passed;
-        }
-
-  pub filling_all :
-      (shape : Shape) → columns ≡ shape.columns → i ≡ squares shape → CellsRead s p shape (record { count = i; next = next }) old new
+  pub filling_stop :
+      None ≡ cell_line s next (i / columns) (i % columns) → (shape : Shape) → columns ≡ shape.columns → i < squares shape →
+      CellsRead s p shape (record { count = i; next = next }) old new
   unfolding cells_read
-  filling_all shape h e =
+  filling_stop e shape h l =
       record {
         count_is =
-            e
-            ∙ subst (λ (w : ℕ). squares shape ≡ first_failing (squares shape) (λ j. (cell_from s p w j).found)) h
-            (sym
-            (failing_none (squares shape) (λ j. (cell_from s p columns j).found)
-            (λ j l. a.lines.so_far j (omega (arith, e, l)))));
+            subst (λ (w : ℕ). i ≡ first_failing (squares shape) (has_cell s p w)) h
+            (sym (failing_at (squares shape) (has_cell s p columns) i l a.lines.so_far (sym (ap is_some (e ∙ cell_here)))));
         next_is = a.lines.here;
         rooms_are = subst (λ (w : ℕ). new ≡ cells_filled s p w i old) h a.rooms_are;
         passed = a.lines.passed;
       }
 
+  pub filling_all :
+      (shape : Shape) → columns ≡ shape.columns → {count : ℕ} → count ≡ squares shape → i ≡ count →
+      CellsRead s p shape (record { count = count; next = next }) old new
+  unfolding cells_read
+  filling_all shape h c e =
+      record {
+        count_is =
+            c
+            ∙ subst (λ (w : ℕ). squares shape ≡ first_failing (squares shape) (has_cell s p w)) h
+            (sym
+            (failing_none (squares shape) (has_cell s p columns)
+            (λ j l. a.lines.so_far j (omega (arith, c, e, l)))));
+        next_is = rw (← e) a.lines.here;
+        rooms_are = rw (← e) (subst (λ (w : ℕ). new ≡ cells_filled s p w i old) h a.rooms_are);
+        passed = omega (arith, e, a.lines.passed);
+      }
+
 -- ---- lines of a table
 
 module _ (s : List ℕ) (p : ℕ) (word : List ℕ) (width : ℕ) (few : width ≤ most_fields) (plain_is : plain word ≡ true) where
-  abbrev row_found : ℕ → Bool
-  row_found j = (row_line s p word width j).found
-
-  module _ {next i : ℕ} (a : Passed s p (λ j. (row_line s p word width j).found) next i) where
-    same_row : line_of s next word width ≡ row_line s p word width i
+  module _ {next i : ℕ} (a : Passed s p (has_row s p word width) next i) where
+    same_row : line_of s next word width ≡ row_at s p word width i
     same_row = ap (λ (q : ℕ). line_of s q word width) a.here
 
-    module _ {f : Fields} (e : f ≡ line_of s next word width) where
-      pub row_more : f.found ≡ true → Passed s p (λ j. (row_line s p word width j).found) f.next (i + 1)
-      row_more t =
-          passed_more s p row_found a (sym (ap (λ (z : Fields). z.found) (e ∙ same_row)) ∙ t) (row_lined s next word width few plain_is e t)
+    module _ {f : Fields} (e : Some f ≡ line_of s next word width) where
+      pub row_more : Passed s p (has_row s p word width) f.next (i + 1)
+      row_more = passed_more s p (has_row s p word width) a (sym (ap is_some (e ∙ same_row))) (row_lined s next word width few plain_is e)
 
-      pub row_forth : f.found ≡ true → next < f.next
-      row_forth t = lined_forth (row_lined s next word width few plain_is e t)
+      pub row_forth : next < f.next
+      row_forth = lined_forth (row_lined s next word width few plain_is e)
 
-      pub rows_stop : next < length s → f.found ≡ false → RowsCounted s p word width (record { count = i; next = next })
-      unfolding rows_read
-      rows_stop l h =
-          record {
-            count_is =
-                sym (failing_at (length s) row_found i (omega (arith, a.passed)) a.so_far (sym (ap (λ (z : Fields). z.found) (e ∙ same_row)) ∙ h));
-            next_is = a.here;
-            passed = a.passed;
-          }
+      pub row_inside : next < length s
+      row_inside = lined_inside (row_lined s next word width few plain_is e)
 
-    -- at the end of the text no line stands
-    pub rows_end : length s ≤ next → i ≤ length s → RowsCounted s p word width (record { count = i; next = next })
+    pub rows_stop : None ≡ line_of s next word width → i ≤ length s → RowsCounted s p word width (record { count = i; next = next })
     unfolding rows_read
-    rows_end l h = record { count_is = counted; next_is = a.here; passed = a.passed }
+    rows_stop e h = record { count_is = go (ℕ_discrete i (length s)); next_is = a.here; passed = a.passed }
       where
-        unfound : row_found i ≡ false
-        unfound =
-            no_more (row_found i)
-            (λ t.
-            omega
-            (arith, l, lined_inside (row_lined s next word width few plain_is refl (ap (λ (z : Fields). z.found) same_row ∙ t))))
-
-        go : Dec (i ≡ length s) → i ≡ first_failing (length s) row_found
-        go (yes z) = z ∙ sym (failing_none (length s) row_found (λ k b. a.so_far k (omega (arith, z, b))))
-        go (no d) = sym (failing_at (length s) row_found i (omega (arith, d, h)) a.so_far unfound)
-
-        counted : i ≡ first_failing (length s) row_found
-        counted = go (ℕ_discrete i (length s))
+        go : Dec (i ≡ length s) → i ≡ first_failing (length s) (has_row s p word width)
+        go (yes z) = z ∙ sym (failing_none (length s) (has_row s p word width) (λ k b. a.so_far k (omega (arith, z, b))))
+        go (no d) = sym (failing_at (length s) (has_row s p word width) i (omega (arith, d, h)) a.so_far (sym (ap is_some (e ∙ same_row))))
 
 -- ---- rows put into a room
 
-pub values_long : (s : List ℕ) (p : ℕ) (word : List ℕ) (width : ℕ) → length (line_of s p word width).values ≡ most_fields
+pub values_long : (s : List ℕ) (p : ℕ) (word : List ℕ) (width : ℕ) → length (fields_or (line_of s p word width)).values ≡ most_fields
 unfolding as_fields padded
 values_long s p word width = go (read_line s p word width)
   where
-    go : (r : Reading) → length (as_fields p r).values ≡ most_fields
+    go : (r : Reading) → length (fields_or (as_fields r)).values ≡ most_fields
     go (read vs q) = length-tabulate most_fields _
     go unread = length-tabulate most_fields _
-
-pub values-at :
-    (s : List ℕ) (p : ℕ) (word : List ℕ) (width : ℕ) {f : Fields} → f ≡ line_of s p word width → length f.values ≡ most_fields
-values-at s p word width e = ap (λ (z : Fields). length z.values) e ∙ values_long s p word width
 
 module _ (s : List ℕ) (p : ℕ) (word : List ℕ) (width : ℕ) (few : width ≤ most_fields) where
   pub row_long : (j : ℕ) → length (take width (row_line s p word width j).values) ≡ width
@@ -268,20 +214,16 @@ module _ (s : List ℕ) (p : ℕ) (word : List ℕ) (width : ℕ) (few : width �
   table_none old = sym (ap (placed old 0) (joined_none _) ∙ placed_none old 0)
 
   module _ (old : List ℕ) (i : ℕ) (fits : width * i + width ≤ length old) where
-    pub table-room : {room : List ℕ} → room ≡ placed old 0 (table_rows s p word width i) → length room ≡ length old
-    table-room e = ap length e ∙ length-placed old 0 (table_rows s p word width i) (omega (arith, fits, table_long i))
-
     pub table_more :
-        {next used : ℕ} {room new : List ℕ} {f : Fields} → next ≡ line_from s p i → used ≡ width * i →
-        room ≡ placed old 0 (table_rows s p word width i) → f ≡ line_of s next word width →
-        new ≡ placed room used (take width f.values) → new ≡ placed old 0 (table_rows s p word width (i + 1))
+        {next : ℕ} {room new : List ℕ} {f : Fields} → next ≡ line_from s p i → room ≡ placed old 0 (table_rows s p word width i) →
+        Some f ≡ line_of s next word width → new ≡ placed room (width * i) (take width f.values) → new ≡ placed old 0 (table_rows s p word width (i + 1))
     unfolding table_rows
-    table_more {next} {used} {room} {new} {f} h u e g n =
-        let row : f ≡ row_line s p word width i = g ∙ ap (λ (q : ℕ). line_of s q word width) h in
-        let at : used ≡ 0 + length (table_rows s p word width i) = omega (arith, u, table_long i) in
+    table_more {next} {room} {new} {f} h e g n =
+        let row : f ≡ row_line s p word width i = ap fields_or (g ∙ ap (λ (q : ℕ). line_of s q word width) h) in
+        let at : width * i ≡ 0 + length (table_rows s p word width i) = omega (arith, table_long i) in
         n
-        ∙ (ap (λ (z : Fields). placed room used (take width z.values)) row
-        ∙ (ap (λ (l : List ℕ). placed l used (take width (row_line s p word width i).values)) e
+        ∙ (ap (λ (z : Fields). placed room (width * i) (take width z.values)) row
+        ∙ (ap (λ (l : List ℕ). placed l (width * i) (take width (row_line s p word width i).values)) e
         ∙ (ap (λ (q : ℕ). placed (placed old 0 (table_rows s p word width i)) q (take width (row_line s p word width i).values)) at
         ∙ (placed_both old 0 (table_rows s p word width i) (take width (row_line s p word width i).values)
         (omega (arith, fits, table_long i, row_long i))
@@ -291,21 +233,10 @@ module _ (s : List ℕ) (p : ℕ) (word : List ℕ) (width : ℕ) (few : width �
 pub table_fits : (width : ℕ) {i count long : ℕ} → i < count → width * count ≤ long → width * i + width ≤ long
 table_fits width {i} l h = omega (arith, mul-le-mul_left width l, mul-suc width i, h)
 
-pub used_more : (width i : ℕ) {used : ℕ} → used ≡ width * i → used + width ≡ width * (i + 1)
-used_more width i e = rw (add-one i) (omega (arith, e, mul-suc width i))
-
-pub rows_length :
-    (s : List ℕ) (p : ℕ) (word : List ℕ) (width : ℕ) → width ≤ most_fields → (old : List ℕ) {i count : ℕ} → i ≤ count →
-    width * count ≤ length old → {room : List ℕ} → room ≡ placed old 0 (table_rows s p word width i) → length room ≡ length old
-rows_length s p word width few old {i} l h e =
-    ap length e
-    ∙ length-placed old 0 (table_rows s p word width i) (omega (arith, mul-le-mul_left width l, h, table_long s p word width few i))
-
 -- a row below the number of rows is found
 pub row_read :
-    (s : List ℕ) (p : ℕ) (word : List ℕ) (width : ℕ) {next i : ℕ} {f : Fields} → Passed s p (λ j. (row_line s p word width j).found) next i →
-    f ≡ line_of s next word width → i < rows_read s p word width → f.found ≡ true
+    (s : List ℕ) (p : ℕ) (word : List ℕ) (width : ℕ) {next i : ℕ} {f : Option Fields} → Passed s p (has_row s p word width) next i →
+    f ≡ line_of s next word width → i < rows_read s p word width → is_some f ≡ true
 unfolding rows_read
 row_read s p word width {next} {i} a e l =
-    ap (λ (z : Fields). z.found) (e ∙ ap (λ (q : ℕ). line_of s q word width) a.here)
-    ∙ failing_before (length s) (λ j. (row_line s p word width j).found) i l
+    ap is_some (e ∙ ap (λ (q : ℕ). line_of s q word width) a.here) ∙ failing_before (length s) (has_row s p word width) i l

@@ -7,6 +7,7 @@ use mathlib.Core.List.{List, [], ◌∷◌, ◌++◌, append-nil}
 use Prim.Native.Nat.{ℕ, ◌+◌, ◌*◌, ◌/◌, ◌%◌, ◌≤◌, ◌<◌}
 use native.Mathlib.Nat.{zero-add, mul-suc, mul-le-mul_left}
 use native.Mathlib.Omega.{arith}
+use Rattle.std.proofs.Common.{Option, Some, None, is_some, option_map}
 use lib.Dec.{eqb}
 use lib.ListN.{length, get_or, drop, length-replicate, drop_of_length-le}
 use lib.Seq.{get_or-take}
@@ -14,11 +15,11 @@ use borrow.Author.Tests.{leb-true}
 use Rattle.reckon.specs.Tests.{pick, Row, ◌unless◌, refusal}
 use Rattle.reckon.specs.Lists.{tabulate, filled, placed}
 use Rattle.reckon.specs.Tables.{rain_kind, inflow_kind}
-use Rattle.reckon.proofs.TestLaws.{pick_true, pick_false, failing_before}
+use Rattle.reckon.proofs.TestLaws.{not_both, pick_true, pick_false, failing_before}
 use Rattle.reckon.proofs.ListLaws.{tabulate_ext, filled_in, placed_in, get_or-joined}
 use Rattle.grid.specs.Squares.{squares}
 use Rattle.grid.specs.Marks.{closed}
-use Rattle.text.specs.Reading.{most_fields, next_line, line_from, LineOf}
+use Rattle.text.specs.Reading.{most_fields, line_of, next_line, line_from, LineOf}
 use Rattle.text.specs.Writing.{line_text}
 use Rattle.text.specs.Inner.Standing.{plain, StandsAt, LineStands}
 use Rattle.text.specs.declared.reading.Fields.{Fields}
@@ -27,12 +28,13 @@ use Rattle.text.proofs.StandLaws.{stands_both}
 use Rattle.text.proofs.LineLaws.{line_add, line-from, lines_stand}
 use Rattle.text.proofs.RoundTrip.{line_found}
 use Rattle.sheet.specs.Lines.{grid_word, run_word, rain_word, inflow_word, grid_fields, run_fields, as_grid, grid_line, as_run, run_line}
-use Rattle.sheet.specs.Sheet.{Cells, Rooms, cell_from, closed_from, cells_read, row_line, rows_read, table_rows, line_one, line_two, shape_of, cells_at, rain_at, rain_rows, rain_table, inflow_at, inflow_rows, inflow_table, after_all, bad_line, cells_filled, all_cells, no_cells, rooms_filled, said, heading_of, sheet_of, rooms_after, Reads}
+use Rattle.sheet.specs.Sheet.{Cells, Rooms, grid_or, run_or, fields_or, has_cell, cell_from, closed_from, cells_read, has_row, row_line, rows_read, table_rows, line_one, has_two, line_two, shape_of, cells_at, rain_at, rain_rows, rain_table, inflow_at, inflow_rows, inflow_table, after_all, bad_line, cells_filled, all_cells, no_cells, rooms_filled, said, heading_of, sheet_of, rooms_after, Reads}
 use Rattle.sheet.specs.Written.{grid_written, run_written, ground_at, cell_written, row_written, lines_written, sheet_written}
+use Rattle.sheet.specs.declared.lines.RunLine.{RunLine}
 use Rattle.sheet.specs.declared.lines.CellLine.{CellLine}
 use Rattle.sheet.specs.declared.reading.Heading.{Heading}
 use Rattle.sheet.specs.declared.reading.Sheet.TheVariants.{Read}
-use Rattle.sheet.proofs.KindLaws.{lined_next, row_lined}
+use Rattle.sheet.proofs.KindLaws.{lined_next, row_lined, run_side}
 use Rattle.sheet.proofs.LetterLaws.{first_of, ground_of, cell_stands, cell_marked}
 use Rattle.sheet.proofs.ReadLaws.{plain-grid, plain-run, plain_rain, plain_inflow}
 use Rattle.sheet.proofs.RoomLaws.{Within, row_long, table_long}
@@ -41,11 +43,11 @@ use Rattle.sheet.proofs.SheetLaws.{Well, well, rooms_cells, rooms-tables, rain_f
 -- ---- a line of a kind
 
 row_stands :
-    {f : Fields} (s : List ℕ) (p : ℕ) (word : List ℕ) (count : ℕ) → count ≤ most_fields → plain word ≡ true → LineOf s p word count f →
-    f.found ≡ true → StandsAt s p (line_text word (tabulate count (λ i. get_or f.values i 0))) (next_line s p)
-row_stands {f} s p word count few w e t =
-    let a = line_found s p count few t word e in
-    let k : next_line s p ≡ f.next = lined_next (row_lined s p word count few w e t) in
+    {f : Fields} (s : List ℕ) (p : ℕ) (word : List ℕ) (count : ℕ) → count ≤ most_fields → plain word ≡ true → LineOf s p word count (Some f) →
+    StandsAt s p (line_text word (tabulate count (λ i. get_or f.values i 0))) (next_line s p)
+row_stands {f} s p word count few w e =
+    let a = line_found s p count few word e in
+    let k : next_line s p ≡ f.next = lined_next (row_lined s p word count few w e) in
     subst (λ (q : ℕ). StandsAt s p (line_text word (tabulate count (λ i. get_or f.values i 0))) q) (sym k)
     (subst (λ (vs : List ℕ). StandsAt s p (line_text word vs) f.next) (first_of count f.values a.many) a.stands)
 
@@ -161,9 +163,13 @@ pub record SheetStands (s : List ℕ) (h : Heading) (held : Rooms) : Type 0 wher
   pub inflow : (j : ℕ) → j < h.inflow_rows → LineStands s (2 + squares h.shape + h.rain_rows + j) (row_written inflow_word inflow_kind.width held.inflow j)
   pub nothing_left : drop (line_from s 0 (2 + squares h.shape + h.rain_rows + h.inflow_rows)) s ≡ []
 
-row-found : (s : List ℕ) (p : ℕ) (word : List ℕ) (width j : ℕ) → j < rows_read s p word width → (row_line s p word width j).found ≡ true
+row-found : (s : List ℕ) (p : ℕ) (word : List ℕ) (width j : ℕ) → j < rows_read s p word width → has_row s p word width j ≡ true
 unfolding rows_read
-row-found s p word width j l = failing_before (length s) (λ i. (row_line s p word width i).found) j l
+row-found s p word width j l = failing_before (length s) (has_row s p word width) j l
+
+row_there : (f : Option Fields) → is_some f ≡ true → Some (fields_or f) ≡ f
+row_there (Some f) e = refl
+row_there None e = not_both e refl
 
 -- the lines of a table that starts at line a
 rows_stand :
@@ -172,7 +178,7 @@ rows_stand :
     (j : ℕ) → j < rows_read s p word width → LineStands s (a + j) (row_written word width table j)
 unfolding row_written table_rows
 rows_stand s p a word width few w at table same j l =
-    let found : (row_line s p word width j).found ≡ true = row-found s p word width j l in
+    let found : has_row s p word width j ≡ true = row-found s p word width j l in
     let numbers : tabulate width (λ k. get_or (row_line s p word width j).values k 0) ≡ tabulate width (λ k. get_or table (width * j + k) 0) =
     tabulate_ext width _ _
     (λ k g.
@@ -182,7 +188,7 @@ rows_stand s p a word width few w at table same j l =
     line-from s a j
     (subst (λ (q : ℕ). StandsAt s (line_from s q j) (line_text word (tabulate width (λ k. get_or table (width * j + k) 0))) (next_line s (line_from s q j))) at
     (subst (λ (vs : List ℕ). StandsAt s (line_from s p j) (line_text word vs) (next_line s (line_from s p j))) numbers
-    (row_stands s (line_from s p j) word width few w refl found)))
+    (row_stands s (line_from s p j) word width few w (row_there _ found))))
 
 -- where nothing is refused, a row that has a number passes
 pub row-passes : (n : ℕ) (b : Bool) (rs : List Row) → 0 < n → refusal (n unless b ∷ rs) ≡ 0 → (b ≡ true) × (refusal rs ≡ 0)
@@ -190,38 +196,60 @@ unfolding refusal pick
 row-passes n true rs l e = (refl, e)
 row-passes n false rs l e = absurd (omega (arith, l, e))
 
+-- what would be written of line 2
+abbrev run_told : RunLine → List ℕ
+run_told r =
+    line_text run_word
+    (r.rules.tolerance ∷ r.rules.shortest ∷ r.rules.longest ∷ r.rules.update ∷ r.end ∷ r.rules.edge ∷ r.rules.edition ∷ [])
+
 module _ (s : List ℕ) (lent : Rooms) (h : Heading) (w : Well s lent h) where
   -- what a text with no bad line has
   pub record TextWhole : Type 0 where
-    pub second_line : (line_two s).found ≡ true
+    pub second_line : has_two s ≡ true
     pub all-cells : squares (shape_of s) ≤ cells_read s (cells_at s) (shape_of s)
     pub nothing_left : length s ≤ after_all s
 
   pub whole : TextWhole
   unfolding bad_line
   whole =
-      let a = row-passes 2 (line_two s).found _ (omega arith) w.text_good in
+      let a = row-passes 2 (has_two s) _ (omega arith) w.text_good in
       let b = row-passes _ _ _ (omega arith) a.1 in
       let c = row-passes _ _ _ (omega arith) b.1 in
       record { second_line = a.0; all-cells = leb-true _ _ b.0; nothing_left = leb-true _ _ c.0 }
 
   grid_stands : LineStands s 0 (line_text grid_word ((shape_of s).rows ∷ (shape_of s).columns ∷ (line_one s).side ∷ []))
   unfolding grid_line as_grid tabulate line_from
-  grid_stands = row_stands s 0 grid_word grid_fields (omega arith) plain-grid refl w.first_line
+  grid_stands = go (line_of s 0 grid_word grid_fields) refl w.first_line
+    where
+      go :
+          (f : Option Fields) → LineOf s 0 grid_word grid_fields f → is_some (option_map as_grid f) ≡ true →
+          LineStands s 0
+          (line_text grid_word
+          ((grid_or (option_map as_grid f)).shape.rows
+          ∷ (grid_or (option_map as_grid f)).shape.columns
+          ∷ (grid_or (option_map as_grid f)).side
+          ∷ []))
+      go (Some f) e t = row_stands s 0 grid_word grid_fields (omega arith) plain-grid e
+      go None e t = not_both t refl
 
   run_stands : LineStands s 1 (run_written (heading_of s))
   unfolding run_line as_run tabulate line_from run_written heading_of
-  run_stands = row_stands s (line_from s 0 1) run_word run_fields (omega arith) plain-run refl whole.second_line
+  run_stands = go (line_of s (line_from s 0 1) run_word run_fields) refl whole.second_line
+    where
+      go :
+          (f : Option Fields) → LineOf s (line_from s 0 1) run_word run_fields f → is_some (option_map (as_run (line_one s).side) f) ≡ true →
+          LineStands s 1 (run_told (run_or (line_one s).side (option_map (as_run (line_one s).side) f)))
+      go (Some f) e t = row_stands s (line_from s 0 1) run_word run_fields (omega arith) plain-run e
+      go None e t = not_both t refl
 
   -- D of line 2's rules is line 1's
   pub side_same : (line_two s).rules.square_side ≡ (line_one s).side
-  unfolding run_line as_run
-  side_same = refl
+  side_same = run_side s (line_from s 0 1) (line_one s).side
 
-  pub cell_found : (i : ℕ) → i < squares (shape_of s) → (cell_from s (cells_at s) (shape_of s).columns i).found ≡ true
+  pub cell_found : (i : ℕ) → i < squares (shape_of s) → has_cell s (cells_at s) (shape_of s).columns i ≡ true
   unfolding cells_read
   cell_found i l =
-      failing_before (squares (shape_of s)) (λ k. (cell_from s (cells_at s) (shape_of s).columns k).found) i (omega (arith, l, whole.all-cells))
+      failing_before (squares (shape_of s)) (has_cell s (cells_at s) (shape_of s).columns) i (omega (arith, l, whole.all-cells))
 
   rain_start : rain_at s ≡ line_from s 0 (2 + squares (shape_of s))
   rain_start = line_add s 0 2 (squares (shape_of s))

@@ -1,6 +1,6 @@
 -- Document 01, "The sheet and its program": the kinds of line, each with its fields in their order.
 -- Assumes nothing.
-use Rattle.std.specs.Prelude.{true, false, List, [], ◌∷◌, ◌++◌, ℕ, zero, suc, ◌+◌, eqb, length, get_or}
+use Rattle.std.specs.Prelude.{List, [], ◌∷◌, ◌++◌, ℕ, zero, suc, ◌+◌, eqb, length, get_or, Option, Some, None, option_map}
 use Rattle.reckon.specs.Tests.{pick}
 use Rattle.text.specs.Reading.{tab, newline, is_byte, word_at, fields_at, rest_of_line, line_of}
 use Rattle.text.specs.declared.reading.Fields.{Fields}
@@ -32,14 +32,13 @@ grid_fields = 3
 unfoldable pub as_grid : Fields → GridLine
 as_grid f =
     record {
-      found = f.found;
       shape = record { rows = get_or f.values 0 0; columns = get_or f.values 1 0 };
       side = get_or f.values 2 0;
       next = f.next;
     }
 
-unfoldable pub grid_line : List ℕ → GridLine
-grid_line s = as_grid (line_of s 0 grid_word grid_fields)
+unfoldable pub grid_line : List ℕ → Option GridLine
+grid_line s = option_map as_grid (line_of s 0 grid_word grid_fields)
 
 -- "`run` q shortest longest U end", and document 02's "e as its last field" (#102) and "the edition, 1 to 3, as its last field" (#113); D is told by line 1
 abbrev pub run_fields : ℕ
@@ -48,7 +47,6 @@ run_fields = 7
 unfoldable pub as_run : ℕ → Fields → RunLine
 as_run D f =
     record {
-      found = f.found;
       rules =
           record {
             square_side = D;
@@ -63,17 +61,13 @@ as_run D f =
       next = f.next;
     }
 
-unfoldable pub run_line : List ℕ → ℕ → ℕ → RunLine
-run_line s p D = as_run D (line_of s p run_word run_fields)
-
--- a line that is no square's
-unfoldable pub no_cell : CellLine
-no_cell = record { found = false; mark = 0; bed = 0; roughness = 0; depth = 0; rate = 0; next = 0 }
+unfoldable pub run_line : List ℕ → ℕ → ℕ → Option RunLine
+run_line s p D = option_map (as_run D) (line_of s p run_word run_fields)
 
 -- "an `x` line ends after its mark"
-unfoldable pub closed_cell : List ℕ → ℕ → CellLine
+unfoldable pub closed_cell : List ℕ → ℕ → Option CellLine
 closed_cell s p =
-    pick (is_byte s p newline) (record { found = true; mark = 0; bed = 0; roughness = 0; depth = 0; rate = 0; next = p + 1 }) no_cell
+    pick (is_byte s p newline) (Some (record { mark = 0; bed = 0; roughness = 0; depth = 0; rate = 0; next = p + 1 })) None
 
 -- "bed, roughness, depth", and "the rate at its end" (document 02, #106)
 abbrev pub open_fields : ℕ
@@ -82,7 +76,6 @@ open_fields = 4
 unfoldable pub as_open : ℕ → Fields → CellLine
 as_open mark f =
     record {
-      found = f.found;
       mark = mark;
       bed = get_or f.values 0 0;
       roughness = get_or f.values 1 0;
@@ -91,8 +84,8 @@ as_open mark f =
       next = f.next;
     }
 
-unfoldable pub open_cell : List ℕ → ℕ → ℕ → CellLine
-open_cell s p mark = as_open mark (rest_of_line s p open_fields)
+unfoldable pub open_cell : List ℕ → ℕ → ℕ → Option CellLine
+open_cell s p mark = option_map (as_open mark) (rest_of_line s p open_fields)
 
 -- "mark `x`, `o` or `e`", after its tab; "mark: 0 closed, 1 open, 2 exit"
 abbrev pub x_letter : ℕ
@@ -104,27 +97,26 @@ o_letter = 111
 abbrev pub e_letter : ℕ
 e_letter = 101
 
-unfoldable pub marked_cell : List ℕ → ℕ → CellLine
+unfoldable pub marked_cell : List ℕ → ℕ → Option CellLine
 marked_cell s p =
     pick (is_byte s p tab)
     (pick (is_byte s (p + 1) x_letter) (closed_cell s (p + 2))
-    (pick (is_byte s (p + 1) o_letter) (open_cell s (p + 2) 1) (pick (is_byte s (p + 1) e_letter) (open_cell s (p + 2) 2) no_cell)))
-    no_cell
+    (pick (is_byte s (p + 1) o_letter) (open_cell s (p + 2) 1) (pick (is_byte s (p + 1) e_letter) (open_cell s (p + 2) 2) None)))
+    None
 
 -- "row, column (from 0)": those of the square whose line it is
 abbrev pub place_fields : ℕ
 place_fields = 2
 
-unfoldable pub placed_cell : List ℕ → ℕ → ℕ → Fields → CellLine
-placed_cell s row column f =
-    pick f.found
-    (pick (eqb (get_or f.values 0 0) row) (pick (eqb (get_or f.values 1 0) column) (marked_cell s f.next) no_cell) no_cell)
-    no_cell
+unfoldable pub placed_cell : List ℕ → ℕ → ℕ → Option Fields → Option CellLine
+placed_cell s row column (Some f) =
+    pick (eqb (get_or f.values 0 0) row) (pick (eqb (get_or f.values 1 0) column) (marked_cell s f.next) None) None
+placed_cell s row column None = None
 
 -- "`cell` .. row, column (from 0), mark, bed, roughness, depth", and the soak rate
-unfoldable pub cell_line : List ℕ → ℕ → ℕ → ℕ → CellLine
+unfoldable pub cell_line : List ℕ → ℕ → ℕ → ℕ → Option CellLine
 cell_line s p row column =
-    pick (word_at s p cell_word) (placed_cell s row column (fields_at s (p + length cell_word) place_fields)) no_cell
+    pick (word_at s p cell_word) (placed_cell s row column (fields_at s (p + length cell_word) place_fields)) None
 
 -- "mark `x`, `o` or `e`": the letter of a mark, "0 closed, 1 open, 2 exit"; there is no other mark, and no other letter
 unfoldable pub letter_of : ℕ → ℕ

@@ -1,6 +1,6 @@
 -- Document 01, "The sheet and its program": a sheet as a whole, in its order. Line k starts where k newlines have passed.
 -- Assumes nothing.
-use Rattle.std.specs.Prelude.{◌≡◌, Bool, false, List, [], ◌∷◌, ℕ, zero, suc, ◌+◌, ◌/◌, ◌%◌, eqb, leb, length, take, replicate}
+use Rattle.std.specs.Prelude.{◌≡◌, Bool, false, List, [], ◌∷◌, ℕ, zero, suc, ◌+◌, ◌/◌, ◌%◌, eqb, leb, length, take, replicate, Option, Some, None, is_some}
 use Rattle.reckon.specs.Tests.{pick, every, first_failing, ◌unless◌, refusal}
 use Rattle.reckon.specs.Lists.{filled, joined, placed}
 use Rattle.reckon.specs.Ranges.{side_fine}
@@ -13,7 +13,7 @@ use Rattle.ledger.specs.Record.{record_size, room_slots}
 use Rattle.checks.specs.Given.{Given, ground, given}
 use Rattle.checks.specs.Refusals.{run_checks}
 use Rattle.checks.specs.Fresh.{fresh_run}
-use Rattle.text.specs.Reading.{line_of, line_from}
+use Rattle.text.specs.Reading.{line_of, line_from, padded}
 use Rattle.text.specs.declared.reading.Fields.{Fields}
 use Rattle.sheet.specs.Lines.{grid_line, run_line, cell_line, rain_word, inflow_word}
 use Rattle.sheet.specs.declared.lines.CellLine.{CellLine}
@@ -23,21 +23,57 @@ use Rattle.sheet.specs.declared.reading.Heading.{Heading}
 use Rattle.sheet.specs.declared.reading.Sheet.{Sheet}
 use Rattle.sheet.specs.declared.reading.Sheet.TheVariants.{Read, Refused}
 
+-- ---- a line that stands there, and where it does not, one of zeros
+
+abbrev pub grid_or : Option GridLine → GridLine
+grid_or (Some line) = line
+grid_or None = record { shape = record { rows = 0; columns = 0 }; side = 0; next = 0 }
+
+-- D is told by line 1
+abbrev pub run_or : ℕ → Option RunLine → RunLine
+run_or D (Some line) = line
+run_or D None =
+    record {
+      rules = record { square_side = D; tolerance = 0; shortest = 0; longest = 0; update = 0; edge = 0; edition = 0 };
+      end = 0;
+      next = 0;
+    }
+
+abbrev pub cell_or : Option CellLine → CellLine
+cell_or (Some line) = line
+cell_or None = record { mark = 0; bed = 0; roughness = 0; depth = 0; rate = 0; next = 0 }
+
+abbrev pub fields_or : Option Fields → Fields
+fields_or (Some line) = line
+fields_or None = record { values = padded []; next = 0 }
+
 -- ---- lines one after the other
 
 -- the cell line of square i of a grid with so many columns, the first square's line being at p; how many can be read before the first that cannot
+abbrev pub cell_at : List ℕ → ℕ → ℕ → ℕ → Option CellLine
+cell_at s p columns i = cell_line s (line_from s p i) (i / columns) (i % columns)
+
+abbrev pub has_cell : List ℕ → ℕ → ℕ → ℕ → Bool
+has_cell s p columns i = is_some (cell_at s p columns i)
+
 abbrev pub cell_from : List ℕ → ℕ → ℕ → ℕ → CellLine
-cell_from s p columns i = cell_line s (line_from s p i) (i / columns) (i % columns)
+cell_from s p columns i = cell_or (cell_at s p columns i)
 
 unfoldable pub cells_read : List ℕ → ℕ → Shape → ℕ
-cells_read s p shape = first_failing (squares shape) (λ i. (cell_from s p shape.columns i).found)
+cells_read s p shape = first_failing (squares shape) (has_cell s p shape.columns)
 
 -- line j of a table whose first line would be at p; how many there are (each has a byte or more)
+abbrev pub row_at : List ℕ → ℕ → List ℕ → ℕ → ℕ → Option Fields
+row_at s p word width j = line_of s (line_from s p j) word width
+
+abbrev pub has_row : List ℕ → ℕ → List ℕ → ℕ → ℕ → Bool
+has_row s p word width j = is_some (row_at s p word width j)
+
 abbrev pub row_line : List ℕ → ℕ → List ℕ → ℕ → ℕ → Fields
-row_line s p word width j = line_of s (line_from s p j) word width
+row_line s p word width j = fields_or (row_at s p word width j)
 
 unfoldable pub rows_read : List ℕ → ℕ → List ℕ → ℕ → ℕ
-rows_read s p word width = first_failing (length s) (λ j. (row_line s p word width j).found)
+rows_read s p word width = first_failing (length s) (has_row s p word width)
 
 -- the numbers of the first rows of a table
 unfoldable pub table_rows : List ℕ → ℕ → List ℕ → ℕ → ℕ → List ℕ
@@ -51,15 +87,21 @@ first_cell = 3
 
 module _ (s : List ℕ) where
   -- line 1: "`grid` rows columns D"
+  abbrev pub has_one : Bool
+  has_one = is_some (grid_line s)
+
   abbrev pub line_one : GridLine
-  line_one = grid_line s
+  line_one = grid_or (grid_line s)
 
   abbrev pub shape_of : Shape
   shape_of = line_one.shape
 
   -- line 2: "`run` q shortest longest U end"
+  abbrev pub has_two : Bool
+  has_two = is_some (run_line s (line_from s 0 1) line_one.side)
+
   abbrev pub line_two : RunLine
-  line_two = run_line s (line_from s 0 1) line_one.side
+  line_two = run_or line_one.side (run_line s (line_from s 0 1) line_one.side)
 
   -- "one `cell` a square in row order"
   abbrev pub cells_at : ℕ
@@ -92,7 +134,7 @@ module _ (s : List ℕ) where
   unfoldable pub bad_line : ℕ
   bad_line =
       refusal
-      (2 unless line_two.found
+      (2 unless has_two
       ∷ (cells_read s cells_at shape_of + first_cell) unless leb (squares shape_of) (cells_read s cells_at shape_of)
       ∷ (squares shape_of + rain_rows + inflow_rows + first_cell) unless leb (length s) after_all
       ∷ [])
@@ -218,7 +260,7 @@ judged zero zero h = Read h
 -- "line 1 read, shape .., the other text, then 2 to 5"
 unfoldable pub sheet_of : List ℕ → Rooms → Sheet
 sheet_of s lent =
-    pick (line_one s).found
+    pick (has_one s)
     (pick (rooms_fine (shape_of s) (line_one s).side lent) (judged (bad_line s) (checks_of s) (heading_of s)) (Refused 1 0))
     (Refused 12 1)
 

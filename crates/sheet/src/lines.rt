@@ -1,6 +1,6 @@
 // The kinds of line of a sheet, each with its fields in their order.
 ghost use Rattle.std.specs.Prelude.{◌≡◌, ◌+◌};
-ghost use Rattle.sheet.specs.Lines.{cell_line, closed_cell, grid_line, marked_cell, no_cell, open_cell, run_line};
+ghost use Rattle.sheet.specs.Lines.{cell_line, closed_cell, grid_line, marked_cell, open_cell, run_line};
 
 use grid::squares::Shape;
 use rule::rules::Rules;
@@ -16,7 +16,6 @@ const EXIT: u8 = 2;
 // Line 1: the shape and the side D.
 #[derive(Clone, Copy)]
 pub struct GridLine {
-    pub found: bool,
     pub shape: Shape,
     pub side: u64,
     pub next: usize,
@@ -25,7 +24,6 @@ pub struct GridLine {
 // Line 2: all of the rules, and the end of the run.
 #[derive(Clone, Copy)]
 pub struct RunLine {
-    pub found: bool,
     pub rules: Rules,
     pub end: u64,
     pub next: usize,
@@ -34,7 +32,6 @@ pub struct RunLine {
 // A square's line. A closed square has no bed, roughness, depth or soak rate: 0 stands for each.
 #[derive(Clone, Copy)]
 pub struct CellLine {
-    pub found: bool,
     pub mark: u8,
     pub bed: u32,
     pub roughness: u32,
@@ -46,32 +43,30 @@ pub struct CellLine {
 // `grid` rows columns D.
 const GRID_FIELDS: usize = 3;
 
-pub fn grid_line(text: &[u8]) -> GridLine
+pub fn grid_line(text: &[u8]) -> Option<GridLine>
     ensures { result ≡ grid_line text.now }
 {
-    let line = line_of(text, 0, b"grid", GRID_FIELDS);
+    let line = line_of(text, 0, b"grid", GRID_FIELDS)?;
     let values = line.values;
-    GridLine {
-        found: line.found,
+    Some(GridLine {
         shape: Shape {
             rows: values[0] as usize,
             columns: values[1] as usize,
         },
         side: values[2] as u64,
         next: line.next,
-    }
+    })
 }
 
 // `run` q shortest longest U end; line 1 tells D.
 const RUN_FIELDS: usize = 7;
 
-pub fn run_line(text: &[u8], at: usize, side: u64) -> RunLine
+pub fn run_line(text: &[u8], at: usize, side: u64) -> Option<RunLine>
     ensures { result ≡ run_line text.now at side }
 {
-    let line = line_of(text, at, b"run", RUN_FIELDS);
+    let line = line_of(text, at, b"run", RUN_FIELDS)?;
     let values = line.values;
-    RunLine {
-        found: line.found,
+    Some(RunLine {
         rules: Rules {
             square_side: side,
             tolerance: values[0] as u64,
@@ -83,67 +78,50 @@ pub fn run_line(text: &[u8], at: usize, side: u64) -> RunLine
         },
         end: values[4] as u64,
         next: line.next,
-    }
-}
-
-// A line that is no square's.
-fn no_cell() -> CellLine
-    ensures { result ≡ no_cell }
-{
-    CellLine {
-        found: false,
-        mark: 0,
-        bed: 0,
-        roughness: 0,
-        depth: 0,
-        rate: 0,
-        next: 0,
-    }
+    })
 }
 
 // After the mark of a closed square: the end of the line.
-fn closed_cell(text: &[u8], at: usize) -> CellLine
+fn closed_cell(text: &[u8], at: usize) -> Option<CellLine>
     ensures { result ≡ closed_cell text.now at }
 {
     if !byte_is(text, at, NEWLINE) {
-        return no_cell();
+        return None;
     }
-    CellLine {
-        found: true,
+    Some(CellLine {
         mark: CLOSED,
         bed: 0,
         roughness: 0,
         depth: 0,
         rate: 0,
         next: at + 1,
-    }
+    })
 }
 
 // After the mark of a square not closed: bed, roughness, depth, soak rate, and the end of the line.
 const OPEN_FIELDS: usize = 4;
 
-fn open_cell(text: &[u8], at: usize, mark: u8) -> CellLine
+fn open_cell(text: &[u8], at: usize, mark: u8) -> Option<CellLine>
     ensures { result ≡ open_cell text.now at mark }
 {
-    let rest = rest_of_line(text, at, OPEN_FIELDS);
+    let rest = rest_of_line(text, at, OPEN_FIELDS)?;
     let values = rest.values;
-    CellLine {
-        found: rest.found,
-        mark: mark,
+    Some(CellLine {
+        mark,
         bed: values[0],
         roughness: values[1],
         depth: values[2],
         rate: values[3],
         next: rest.next,
-    }
+    })
 }
 
 // From the mark on: a tab, `x`, `o` or `e`, and the rest by the mark.
-fn marked_cell(text: &[u8], at: usize) -> CellLine
+fn marked_cell(text: &[u8], at: usize) -> Option<CellLine>
     ensures { result ≡ marked_cell text.now at }
 {
     if !byte_is(text, at, TAB) {
-        return no_cell();
+        return None;
     }
     if byte_is(text, at + 1, b'x') {
         return closed_cell(text, at + 2);
@@ -154,28 +132,25 @@ fn marked_cell(text: &[u8], at: usize) -> CellLine
     if byte_is(text, at + 1, b'e') {
         return open_cell(text, at + 2, EXIT);
     }
-    no_cell()
+    None
 }
 
 // `cell` row column mark bed roughness depth rate, for the square in a row and a column; an `x` line ends after its mark.
 const PLACE_FIELDS: usize = 2;
 
-pub(crate) fn cell_line(text: &[u8], at: usize, row: usize, column: usize) -> CellLine
+pub(crate) fn cell_line(text: &[u8], at: usize, row: usize, column: usize) -> Option<CellLine>
     ensures { result ≡ cell_line text.now at row column }
 {
     if !word_at(text, at, b"cell") {
-        return no_cell();
+        return None;
     }
-    let place = fields_at(text, at + 4, PLACE_FIELDS);
-    if !place.found {
-        return no_cell();
-    }
+    let place = fields_at(text, at + 4, PLACE_FIELDS)?;
     let values = place.values;
     if values[0] as usize != row {
-        return no_cell();
+        return None;
     }
     if values[1] as usize != column {
-        return no_cell();
+        return None;
     }
     marked_cell(text, place.next)
 }

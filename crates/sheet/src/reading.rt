@@ -1,12 +1,12 @@
 // Reading a sheet: the text and the checks decide with nothing lent written, and then the rooms are filled.
-ghost use Rattle.std.specs.Prelude.{◌≡◌, true, [], ◌∷◌, ◌*◌, ◌+◌, ◌≤◌, min, leb, length};
+ghost use Rattle.std.specs.Prelude.{◌≡◌, true, [], ◌∷◌, ◌*◌, ◌+◌, ◌≤◌, leb, length};
 ghost use Rattle.reckon.specs.Tests.{every};
 ghost use Rattle.reckon.specs.Ranges.{side_fine};
 ghost use Rattle.reckon.specs.Tables.{inflow_kind, rain_kind, table_room};
 ghost use Rattle.grid.specs.Squares.{ShapeInRange, shape_fine, squares};
 ghost use Rattle.sheet.specs.Lines.{grid_line};
 ghost use Rattle.sheet.specs.Sheet.{Reads, cells_rooms, checks_in, checks_of, rooms, said, shape_of};
-ghost use Rattle.sheet.specs.Inner.Reading.{BodyIs, Decided, TextRead, looked_rows};
+ghost use Rattle.sheet.specs.Inner.Reading.{BodyIs, Decided, TextRead};
 
 use crate::lines::{GridLine, grid_line, run_line};
 use crate::rooms::{count_rows, fill_cells, fill_rows};
@@ -104,12 +104,20 @@ fn rooms_fine(shape: Shape, side: u64, lent: Sizes) -> bool
 }
 
 // A text whose line of this number cannot be read.
-fn bad_body(line: usize, rules: Rules) -> Body
+fn bad_body(line: usize) -> Body
     ensures { result.bad ≡ line }
 {
     Body {
         bad: line,
-        rules: rules,
+        rules: Rules {
+            square_side: 0,
+            tolerance: 0,
+            shortest: 0,
+            longest: 0,
+            update: 0,
+            edge: 0,
+            edition: 0,
+        },
         end: 0,
         cells_at: 0,
         rain_at: 0,
@@ -129,29 +137,27 @@ fn read_body(
     rates: &mut [u32],
     depths: &mut [u32],
 ) -> Body
-    requires top_value { (top ≡ grid_line text.now) × (top.found ≡ true) × (ShapeInRange top.shape) }
+    requires top_value { (Some top ≡ grid_line text.now) × (ShapeInRange top.shape) }
     requires shape_in_bounds { (squares top.shape ≤ length marks.old) × (squares top.shape ≤ length beds.old) × (squares top.shape ≤ length roughness.old) × (squares top.shape ≤ length rates.old) × (squares top.shape ≤ length depths.old) }
     ensures { TextRead text.now result (cells_rooms marks.old beds.old roughness.old rates.old depths.old) (cells_rooms marks.new beds.new roughness.new rates.new depths.new) }
 {
-    let run = run_line(text, top.next, top.side);
-    let rules = run.rules;
-    if !run.found {
-        return bad_body(2, rules);
-    }
+    let Some(run) = run_line(text, top.next, top.side) else {
+        return bad_body(2);
+    };
     let shape = top.shape;
     let squares = squares_of(shape);
     let cells = fill_cells(text, run.next, shape, marks, beds, roughness, rates, depths);
     if cells.count < squares {
-        return bad_body(cells.count + FIRST_CELL_LINE, rules);
+        return bad_body(cells.count + FIRST_CELL_LINE);
     }
     let rain = count_rows(text, cells.next, b"rain", RAIN_WIDTH);
     let inflow = count_rows(text, rain.next, b"inflow", INFLOW_WIDTH);
     if inflow.next < text.len() {
-        return bad_body(squares + rain.count + inflow.count + FIRST_CELL_LINE, rules);
+        return bad_body(squares + rain.count + inflow.count + FIRST_CELL_LINE);
     }
     Body {
         bad: 0,
-        rules: rules,
+        rules: run.rules,
         end: run.end,
         cells_at: run.next,
         rain_at: cells.next,
@@ -159,16 +165,6 @@ fn read_body(
         inflow_at: rain.next,
         inflow_rows: inflow.count,
     }
-}
-
-// The rows of a table that are looked at.
-fn looked_at(rows: usize) -> usize
-    ensures { result ≡ min rows looked_rows }
-{
-    if MOST_TABLE_ROWS < rows {
-        return LOOKED_ROWS;
-    }
-    rows
 }
 
 // The first of 1 to 6 that applies to a run to the end from a fresh run, 0 for none.
@@ -224,8 +220,8 @@ fn judge_body(
 {
     let mut rain = [0u32; RAIN_LOOKED];
     let mut inflow = [0u32; INFLOW_LOOKED];
-    let rain_rows = looked_at(body.rain_rows);
-    let inflow_rows = looked_at(body.inflow_rows);
+    let rain_rows = body.rain_rows.min(LOOKED_ROWS);
+    let inflow_rows = body.inflow_rows.min(LOOKED_ROWS);
     fill_rows(
         text,
         body.rain_at,
@@ -268,7 +264,7 @@ pub(crate) struct Verdict {
 
 // Whether a text whose line 1 and rooms are good is refused: all other text, and then 2 to 5.
 fn decide(text: &[u8], top: GridLine) -> Verdict
-    requires { (top ≡ grid_line text.now) × (top.found ≡ true) × (ShapeInRange top.shape) }
+    requires { (Some top ≡ grid_line text.now) × (ShapeInRange top.shape) }
     ensures { Decided text.now result }
 {
     let mut marks = [0u8; MOST_SQUARES];
@@ -324,10 +320,9 @@ pub fn read(
 ) -> Sheet
     ensures { Reads text.now (rooms marks.old beds.old roughness.old rates.old depths.old rain.old inflow.old) result (rooms marks.new beds.new roughness.new rates.new depths.new rain.new inflow.new) }
 {
-    let top = grid_line(text);
-    if !top.found {
+    let Some(top) = grid_line(text) else {
         return Sheet::Refused(12, 1);
-    }
+    };
     let shape = top.shape;
     let lent = Sizes {
         marks: marks.len(),

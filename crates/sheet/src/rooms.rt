@@ -66,21 +66,18 @@ pub(crate) fn fill_cells(
     let squares = squares_of(shape);
     let columns = shape.columns;
     let mut next = at;
-    let mut square: usize = 0;
-    while square < squares {
-        let cell = cell_line(text, next, square / columns, square % columns);
-        if !cell.found {
+    for square in 0..squares {
+        let Some(cell) = cell_line(text, next, square / columns, square % columns) else {
             return Scan {
                 count: square,
                 next: next,
             };
-        }
+        };
         put_cell(cell, square, marks, beds, roughness, rates, depths);
         next = cell.next;
-        square += 1;
     }
     Scan {
-        count: square,
+        count: squares,
         next: next,
     }
 }
@@ -92,21 +89,11 @@ pub fn count_rows(text: &[u8], at: usize, word: &[u8], width: usize) -> Scan
 {
     let mut next = at;
     let mut count: usize = 0;
-    while next < text.len() {
-        let line = line_of(text, next, word, width);
-        if !line.found {
-            return Scan {
-                count: count,
-                next: next,
-            };
-        }
+    while let Some(line) = line_of(text, next, word, width) {
         next = line.next;
         count += 1;
     }
-    Scan {
-        count: count,
-        next: next,
-    }
+    Scan { count, next }
 }
 
 // The first numbers of a line into a room.
@@ -124,14 +111,11 @@ pub fn fill_rows(text: &[u8], at: usize, word: &[u8], width: usize, count: usize
     ensures { room.new ≡ placed room.old 0 (table_rows text.now at word.now width count) }
 {
     let mut next = at;
-    let mut used: usize = 0;
-    let mut row: usize = 0;
-    while row < count {
-        let line = line_of(text, next, word, width);
-        let values = line.values;
-        put_row(&values, width, used, room);
+    for row in 0..count {
+        let Some(line) = line_of(text, next, word, width) else {
+            return;
+        };
+        put_row(&line.values, width, width * row, room);
         next = line.next;
-        used += width;
-        row += 1;
     }
 }

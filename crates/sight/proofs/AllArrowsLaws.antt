@@ -35,9 +35,6 @@ pub record Filled {A : Type 0} (n : ℕ) (d : A) (f : ℕ → A) (i : ℕ) (l : 
   pub there : (k : ℕ) → k < i → get_or l k d ≡ f k
 
 module _ {A : Type 0} {n : ℕ} (d : A) (f : ℕ → A) where
-  pub filled_none : {l : List A} → length l ≡ n → Filled n d f 0 l
-  filled_none e = record { long = e; there = λ k h. absurd (omega arith) }
-
   pub filled_more : {i : ℕ} {v : A} (old : List A) {l : List A} → Filled n d f i old → i < n → l ≡ set old i v → v ≡ f i → Filled n d f (i + 1) l
   filled_more {i} {v} old {l} F h e q =
       record {
@@ -80,14 +77,6 @@ pub record Sweeping (n : ℕ) (f : ℕ → Sight) (i : ℕ) (kinds : List ℕ) (
   pub north_so : Filled n zero64 (λ k. (arrow_in (f k)).north) i north
 
 module _ (n : ℕ) (f : ℕ → Sight) where
-  pub sweep_none : {kinds : List ℕ} {east north : List Float} → RoomsLong n kinds east north → Sweeping n f 0 kinds east north
-  sweep_none r =
-      record {
-        kinds_so = filled_none _ _ r.kinds_long;
-        east_so = filled_none _ _ r.east_long;
-        north_so = filled_none _ _ r.north_long;
-      }
-
   pub sweep_more :
       {i : ℕ} {a : Sight} {kinds kinds' : List ℕ} {east east' north north' : List Float} → Sweeping n f i kinds east north → i < n → a ≡ f i →
       (kinds' ≡ set kinds i (kind_of a)) × (east' ≡ set east i (arrow_in a).east) × (north' ≡ set north i (arrow_in a).north) →

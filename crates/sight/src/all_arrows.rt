@@ -87,14 +87,11 @@ fn see_all(
     requires timed { (Timed square_side rec.now) × (RoomsLong (squares shape) kinds.old east.old north.old) }
     ensures { sights kinds.new east.new north.new ≡ laid_out (squares shape) (seen_by 0 (plan shape marks.now) square_side depths.now rec.now) }
 {
-    let squares = squares_of(shape);
-    let mut square = 0;
     let mut column = 0;
-    while square < squares {
+    for square in 0..squares_of(shape) {
         let sight = seen(shape, square_side, marks, depths, rec, square, column);
         keep_sight(sight, square, kinds, east, north);
         column = next_column(shape, column);
-        square += 1;
     }
 }
 

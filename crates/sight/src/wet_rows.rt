@@ -21,12 +21,9 @@ pub fn ones_in(rows: &[u64]) -> u64
     requires { length rows.now ≤ most_along }
     ensures { OnesIn rows.now result }
 {
-    let count = rows.len();
     let mut total: u64 = 0;
-    let mut row = 0;
-    while row < count {
-        total += ones(rows[row]);
-        row += 1;
+    for row in rows {
+        total += ones(*row);
     }
     total
 }

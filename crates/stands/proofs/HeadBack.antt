@@ -26,8 +26,8 @@ use Rattle.stands.proofs.HeadLaws.{head_is}
 
 -- a line of a kind, read with as many fields as it has
 pub line_read : {s : List ℕ} {p q : ℕ} (word vs : List ℕ) → Readable vs → StandsAt s p (line_text word vs) q →
-    line_of s p word (length vs) ≡ as_fields p (read vs q)
-line_read {s} {p} {q} word vs h a = ap (as_fields p) (line-back word vs a h)
+    line_of s p word (length vs) ≡ as_fields (read vs q)
+line_read {s} {p} {q} word vs h a = ap as_fields (line-back word vs a h)
 
 -- ---- the first line
 
@@ -36,7 +36,7 @@ first_as steps clock length opening next =
     record { found = true; steps = steps; clock = clock; length = length; opening = opening; next = next }
 
 as_first_lem : (steps clock length q : ℕ) (b : Bool) →
-    as_first (as_fields 0 (read (steps ∷ clock ∷ length ∷ pick {A = ℕ} b 1 0 ∷ []) q)) ≡ first_as steps clock length b q
+    as_first (as_fields (read (steps ∷ clock ∷ length ∷ pick {A = ℕ} b 1 0 ∷ []) q)) ≡ first_as steps clock length b q
 unfolding as_first as_fields padded tabulate pick
 as_first_lem steps clock length q true = refl
 as_first_lem steps clock length q false = refl
@@ -50,7 +50,7 @@ total_back : {s : List ℕ} {p q : ℕ} (word : List ℕ) (n : ℕ) → n / half
 unfolding total_text total_line as_total as_fields padded tabulate
 total_back {s} {p} {q} word n h a =
     let whole : n / half * half + n % half ≡ n = omega arith in
-    ap as_total (line_read word (n / half ∷ n % half ∷ []) (h, (omega arith, tt)) a) ∙ ap (λ (v : ℕ). total_as v q) whole
+    ap (as_total p) (line_read word (n / half ∷ n % half ∷ []) (h, (omega arith, tt)) a) ∙ ap (λ (v : ℕ). total_as v q) whole
 
 -- ---- all five
 

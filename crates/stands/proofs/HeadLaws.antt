@@ -1,7 +1,8 @@
 -- Laws of the lines before the hatches: what was read of each makes the whole.
 -- Assumes nothing.
-use mathlib.Core.Path.{◌≡◌}
-use mathlib.Core.Bool.{Bool, true, false, ◌&&◌}
+use mathlib.Core.Path.{◌≡◌, ap, ◌∙◌}
+use Rattle.std.proofs.Common.{Some, None}
+use mathlib.Core.Bool.{true, false}
 use mathlib.Core.List.{List, [], ◌∷◌}
 use Prim.Native.Nat.{ℕ, ◌+◌, ◌*◌}
 use lib.Dec.{eqb, leb}
@@ -16,35 +17,33 @@ use Rattle.stands.specs.declared.heads.Head.{Head}
 use Rattle.stands.specs.declared.heads.StandLine.{StandLine}
 use Rattle.stands.specs.declared.heads.TotalLine.{TotalLine}
 
-pub not_found : (found b : Bool) → found ≡ false → false ≡ (found && b)
-not_found found b e = rw e
+pub first_none : (s : List ℕ) → None ≡ line_of s 0 stand_word first_fields →
+    record { found = false; steps = 0; clock = 0; length = 0; opening = false; next = 0 } ≡ stand_line s
+unfolding stand_line as_first
+first_none s e = ap as_first e
 
-pub is_found : (found b : Bool) → found ≡ true → b ≡ (found && b)
-is_found found b e = rw e
-
-abbrev first : Fields → Bool → StandLine
-first f found =
+pub first_is : (s : List ℕ) {f : Fields} → Some f ≡ line_of s 0 stand_word first_fields →
     record {
-      found = found;
+      found = leb (get_or f.values 3 0) 1;
       steps = get_or f.values 0 0;
       clock = get_or f.values 1 0;
       length = get_or f.values 2 0;
       opening = eqb (get_or f.values 3 0) 1;
       next = f.next;
     }
-
-pub first_is : (s : List ℕ) {f : Fields} {found : Bool} → f ≡ line_of s 0 stand_word first_fields → found ≡ (f.found && leb (get_or f.values 3 0) 1) →
-    first f found ≡ stand_line s
+    ≡ stand_line s
 unfolding stand_line as_first
-first_is s e h = rw (h, e)
+first_is s e = ap as_first e
 
-abbrev total : Fields → ℕ → TotalLine
-total f value = record { found = f.found; value = value; next = f.next }
-
-pub total_is : (s : List ℕ) (q : ℕ) (word : List ℕ) {f : Fields} {value : ℕ} → f ≡ line_of s q word total_fields →
-    value ≡ get_or f.values 0 0 * half + get_or f.values 1 0 → total f value ≡ total_line s q word
+pub total_none : (s : List ℕ) (q : ℕ) (word : List ℕ) → None ≡ line_of s q word total_fields →
+    record { found = false; value = 0; next = q } ≡ total_line s q word
 unfolding total_line as_total
-total_is s q word e h = rw (h, e)
+total_none s q word e = ap (as_total q) e
+
+pub total_is : (s : List ℕ) (q : ℕ) (word : List ℕ) {f : Fields} {value : ℕ} → Some f ≡ line_of s q word total_fields →
+    value ≡ get_or f.values 0 0 * half + get_or f.values 1 0 → record { found = true; value = value; next = f.next } ≡ total_line s q word
+unfolding total_line as_total
+total_is s q word {f} e h = ap (λ (v : ℕ). record { found = true; value = v; next = f.next }) h ∙ ap (as_total q) e
 
 abbrev whole : ℕ → StandLine → TotalLine → TotalLine → TotalLine → TotalLine → Head
 whole bad a b c d e =

@@ -6,6 +6,7 @@ use mathlib.Core.List.{List, [], ◌∷◌}
 use Prim.Native.Nat.{ℕ, zero, suc, ◌+◌, ◌-◌, ◌≤◌, ◌<◌}
 use native.Mathlib.Nat.{add-zero, not-suc-le-zero}
 use native.Mathlib.Decide.{ℕ_discrete}
+use Rattle.std.proofs.Common.{Some, None}
 use native.Mathlib.Omega.{arith}
 use lib.ListN.{length, get_or, set, replicate, length-set, length-replicate, get_or-replicate, length-append}
 use lib.Seq.{ext_get_or, get_or-set_same, get_or-set_other}
@@ -72,16 +73,16 @@ module _ {A : Type 0} (d : A) (full : List A) where
 
 -- it does not name the hatch of place h
 data Other (s : List ℕ) (x h : ℕ) : Type 0 where
-  unfound : (line_of s x hatch_word hatch_fields).found ≡ false → Other s x h
-  another : (line_of s x hatch_word hatch_fields).found ≡ true → (get_or (line_of s x hatch_word hatch_fields).values 0 0 ≡ h + 1 → ⊥) → Other s x h
+  unfound : None ≡ line_of s x hatch_word hatch_fields → Other s x h
+  another : {f : Fields} → Some f ≡ line_of s x hatch_word hatch_fields → (get_or f.values 0 0 ≡ h + 1 → ⊥) → Other s x h
 
 other_kept : (s : List ℕ) (n : Named) (h : ℕ) → Other s n.next h → with_hatch s n h ≡ n
-other_kept s n h (unfound e) = sym (hatch_unfound s n h refl e)
-other_kept s n h (another t d) = sym (hatch_other s n h refl t d)
+other_kept s n h (unfound e) = sym (hatch_unfound s n h e)
+other_kept s n h (another t d) = sym (hatch_other s n h t d)
 
 no_word : (s : List ℕ) (x h : ℕ) → word_at s x hatch_word ≡ false → Other s x h
 unfolding read_line as_fields
-no_word s x h e = unfound (ap (λ (f : Fields). f.found) (ap (as_fields x) (pick_false _ _ e)))
+no_word s x h e = unfound (sym (ap as_fields (pick_false _ _ e)))
 
 -- ---- all nine
 
@@ -116,7 +117,7 @@ module _ (hs : Hatches) (litres : List ℕ) (tidy : Tidy hs litres)
     unfolding hatches_text
     whole = stands
 
-    line-at : (h : ℕ) → h < most_hatches → get_or hs.named h false ≡ true → line_of s (at h) hatch_word hatch_fields ≡ as_fields (at h) (read (numbers h) (at (suc h)))
+    line-at : (h : ℕ) → h < most_hatches → get_or hs.named h false ≡ true → line_of s (at h) hatch_word hatch_fields ≡ as_fields (read (numbers h) (at (suc h)))
     line-at h l e =
         let low = small h l e in
         line_read hatch_word (numbers h) (omega arith, (low.0, (low.1, (low.2, tt))))
@@ -136,7 +137,7 @@ module _ (hs : Hatches) (litres : List ℕ) (tidy : Tidy hs litres)
         by_test (get_or hs.named j false)
         (λ t.
         let here = line-at j (omega (arith, e)) t in
-        another (ap (λ (x : Fields). x.found) here) (λ z. omega (arith, sym (ap (λ (x : Fields). get_or x.values 0 0) here) ∙ z)))
+        another (sym here) (λ z. omega (arith, z)))
         (λ t. subst (λ (x : ℕ). Other s x h) (same_place j t) (later left (suc j) h (omega (arith, e)) (omega arith)))
 
     record Places (h : ℕ) (n : Named) : Type 0 where
@@ -165,9 +166,9 @@ module _ (hs : Hatches) (litres : List ℕ) (tidy : Tidy hs litres)
       here : get_or hs.named h false ≡ true → Places (suc h) (with_hatch s n h)
       unfolding as_fields padded tabulate
       here e =
-          let line : as_fields (at h) (read (numbers h) (at (suc h))) ≡ line_of s n.next hatch_word hatch_fields =
+          let line : as_fields (read (numbers h) (at (suc h))) ≡ line_of s n.next hatch_word hatch_fields =
           sym (ap (λ (x : ℕ). line_of s x hatch_word hatch_fields) u.next_is ∙ line-at h l e) in
-          subst (λ (m : Named). Places (suc h) m) (hatch_here s n h line refl refl)
+          subst (λ (m : Named). Places (suc h) m) (hatch_here s n h line refl)
           (record {
             named = upto_set false hs.named h l u.named true (sym e);
             rows = upto_set 0 hs.rows h l u.rows (get_or hs.rows h 0) refl;

@@ -97,9 +97,6 @@ module _ (k : ℕ) (f : ℕ → List ℕ) (at : ℕ) (old : List ℕ) (n : ℕ) 
   pub lines_long : i ≤ n → length room ≡ length old
   lines_long l = wrote_length (omega (arith, a.short, so_far l)) a.wrote
 
-  pub lines_fit : i < n → next + k ≤ length room
-  lines_fit l = omega (arith, a.wrote.next, a.short, one_more l, lines_long (omega arith))
-
   pub lines_more : {new : List ℕ} {r : ℕ} → i < n → PutWithin k (f i) next room new r → Lines k f at old new r (i + 1)
   lines_more {new} {r} l w =
       record {

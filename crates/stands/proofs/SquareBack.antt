@@ -5,6 +5,7 @@ use mathlib.Core.Bool.{true, false}
 use mathlib.Core.List.{List, [], ◌∷◌, ◌++◌}
 use Prim.Native.Nat.{ℕ, zero, suc, ◌+◌, ◌≤◌, ◌<◌}
 use native.Mathlib.Nat.{add-zero}
+use Rattle.std.proofs.Common.{Option, Some, is_some}
 use native.Mathlib.Omega.{arith}
 use lib.ListN.{length, get_or, length-append}
 use borrow.Author.Tests.{leb-true}
@@ -24,28 +25,28 @@ use Rattle.text.proofs.ReadingLaws.{by_test, word_past, word_differs}
 use Rattle.text.proofs.StandLaws.{byte_stands}
 use Rattle.hatches.specs.Lines.{hatch_word}
 use Rattle.stands.specs.Texts.{at_word, square_text, squares_text}
-use Rattle.stands.specs.Laying.{closed_square, square_line, start_from, square_from, depth_from, last_from, waters_read}
+use Rattle.stands.specs.Laying.{square_or, has_square, closed_square, square_line, start_from, square_from, depth_from, last_from, waters_read}
 use Rattle.stands.specs.declared.squares.SquareLine.{SquareLine}
 use Rattle.stands.proofs.HeadBack.{line_read}
 use Rattle.stands.proofs.SquareLaws.{square_closed, square_here, closed-water, waters_as}
 
 abbrev square_as : ℕ → ℕ → ℕ → SquareLine
-square_as depth last next = record { found = true; depth = depth; last = last; lines = 1; next = next }
+square_as depth last next = record { depth = depth; last = last; lines = 1; next = next }
 
 -- one line
 open_back : {s : List ℕ} {q r : ℕ} (marks : List ℕ) (i depth last : ℕ) → closed marks i ≡ false → i ≤ most_number → depth ≤ most_number → last ≤ most_number →
-    StandsAt s q (line_text at_word (i ∷ depth ∷ last ∷ [])) r → square_line s q marks i ≡ square_as depth last r
+    StandsAt s q (line_text at_word (i ∷ depth ∷ last ∷ [])) r → square_line s q marks i ≡ Some (square_as depth last r)
 unfolding as_fields padded tabulate
 open_back {s} {q} {r} marks i depth last o h k l a =
-    sym (square_here s q marks i o (sym (line_read at_word (i ∷ depth ∷ last ∷ []) (h, (k, (l, tt))) a)) refl refl)
+    sym (square_here s q marks i o (sym (line_read at_word (i ∷ depth ∷ last ∷ []) (h, (k, (l, tt))) a)) refl)
 
-closed_next : (s : List ℕ) (q : ℕ) (marks : List ℕ) (i : ℕ) → closed marks i ≡ true → (square_line s q marks i).next ≡ q
+closed_next : (s : List ℕ) (q : ℕ) (marks : List ℕ) (i : ℕ) → closed marks i ≡ true → (square_or (square_line s q marks i)).next ≡ q
 unfolding closed_square
-closed_next s q marks i t = sym (ap (λ (x : SquareLine). x.next) (square_closed s q marks i t))
+closed_next s q marks i t = sym (ap (λ (x : Option SquareLine). (square_or x).next) (square_closed s q marks i t))
 
-closed_found : (s : List ℕ) (q : ℕ) (marks : List ℕ) (i : ℕ) → closed marks i ≡ true → (square_line s q marks i).found ≡ true
+closed_found : (s : List ℕ) (q : ℕ) (marks : List ℕ) (i : ℕ) → closed marks i ≡ true → is_some (square_line s q marks i) ≡ true
 unfolding closed_square
-closed_found s q marks i t = sym (ap (λ (x : SquareLine). x.found) (square_closed s q marks i t))
+closed_found s q marks i t = sym (ap is_some (square_closed s q marks i t))
 
 -- ---- all of them
 
@@ -93,7 +94,7 @@ module _ (p : Plan) (depths lasts : List ℕ) (fine : ShapeInRange p.shape) (wat
     unfolding squares_text
     whole = stands
 
-    open_at : (i : ℕ) → i < n → shut p i ≡ false → square_line s (at i) p.marks i ≡ square_as (get_or depths i 0) (get_or lasts i 0) (at (suc i))
+    open_at : (i : ℕ) → i < n → shut p i ≡ false → square_line s (at i) p.marks i ≡ Some (square_as (get_or depths i 0) (get_or lasts i 0) (at (suc i)))
     open_at i l o =
         let small = small_at i l o in
         open_back p.marks i (get_or depths i 0) (get_or lasts i 0) o (omega (arith, fine.few)) small.0 small.1
@@ -109,20 +110,24 @@ module _ (p : Plan) (depths lasts : List ℕ) (fine : ShapeInRange p.shape) (wat
     start-at zero h = sym (add-zero q)
     start-at (suc i) h =
         let here : start_from s q p.marks i ≡ at i = start-at i (omega arith) in
-        ap (λ (k : ℕ). (square_line s k p.marks i).next) here ∙ next_at i (omega arith)
+        ap (λ (k : ℕ). (square_or (square_line s k p.marks i)).next) here ∙ next_at i (omega arith)
       where
-        next_at : (i : ℕ) → i < n → (square_line s (at i) p.marks i).next ≡ at (suc i)
+        next_at : (i : ℕ) → i < n → (square_or (square_line s (at i) p.marks i)).next ≡ at (suc i)
         next_at i l =
             by_test (closed p.marks i) (λ t. closed_next s (at i) p.marks i t ∙ sym (same_place i t))
-            (λ o. ap (λ (x : SquareLine). x.next) (open_at i l o))
+            (λ o. ap (λ (x : Option SquareLine). (square_or x).next) (open_at i l o))
+
+    read_back : (i : ℕ) → i < n → shut p i ≡ false →
+        square_line s (start_from s q p.marks i) p.marks i ≡ Some (square_as (get_or depths i 0) (get_or lasts i 0) (at (suc i)))
+    read_back i l o = ap (λ (k : ℕ). square_line s k p.marks i) (start-at i (omega arith)) ∙ open_at i l o
 
     pub square_back : (i : ℕ) → i < n → shut p i ≡ false → square_from s q p.marks i ≡ square_as (get_or depths i 0) (get_or lasts i 0) (at (suc i))
-    square_back i l o = ap (λ (k : ℕ). square_line s k p.marks i) (start-at i (omega arith)) ∙ open_at i l o
+    square_back i l o = ap square_or (read_back i l o)
 
-    pub found_back : (i : ℕ) → i < n → (square_from s q p.marks i).found ≡ true
+    pub found_back : (i : ℕ) → i < n → has_square s q p.marks i ≡ true
     found_back i l =
         by_test (closed p.marks i) (λ t. closed_found s (start_from s q p.marks i) p.marks i t)
-        (λ o. ap (λ (x : SquareLine). x.found) (square_back i l o))
+        (λ o. ap is_some (read_back i l o))
 
     pub all_back : start_from s q p.marks n ≡ r
     unfolding squares_text

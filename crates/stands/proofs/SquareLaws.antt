@@ -1,12 +1,13 @@
 -- Laws of the squares' lines: one line, one square more, the first that cannot be read, and the rooms filled.
 -- Assumes nothing.
-use mathlib.Core.Path.{◌≡◌, refl, sym, ap, ap₂, ◌∙◌}
+use mathlib.Core.Path.{◌≡◌, refl, sym, ap, ap₂, subst, ◌∙◌}
 use mathlib.Core.Bool.{Bool, true, false, ◌||◌}
 use mathlib.Core.List.{List}
 use Prim.Native.Nat.{ℕ, ◌+◌, ◌≤◌, ◌<◌}
 use native.Mathlib.Nat.{not-suc-le-zero}
 use native.Mathlib.Numerals.{add-one}
 use native.Mathlib.Omega.{arith}
+use Rattle.std.proofs.Common.{Option, Some, None, is_some, unwrap_or}
 use lib.ListN.{length, get_or, set}
 use borrow.Author.Count.{below_more}
 use borrow.Author.Tests.{eq-eqb, ne_eqb}
@@ -23,44 +24,48 @@ use Rattle.text.specs.Reading.{line_of}
 use Rattle.text.specs.declared.reading.Fields.{Fields}
 use Rattle.text.proofs.ReadingLaws.{by_test}
 use Rattle.stands.specs.Texts.{at_word}
-use Rattle.stands.specs.Laying.{no_square, closed_square, square_fields, as_square, square_line, start_from, square_from, depth_from, last_from, squares_read, lines_from, waters_read}
+use Rattle.stands.specs.Laying.{square_or, has_square, closed_square, square_fields, as_square, square_line, start_from, square_from, depth_from, last_from, squares_read, lines_from, waters_read}
 use Rattle.stands.specs.Inner.Passing.{SquaresPassed}
 use Rattle.stands.specs.declared.squares.SquareLine.{SquareLine}
 
 -- ---- one line
 
+pub or_zeros : (l : Option SquareLine) → unwrap_or l (record { depth = 0; last = 0; lines = 0; next = 0 }) ≡ square_or l
+or_zeros (Some l) = refl
+or_zeros None = refl
+
 module _ (s : List ℕ) (q : ℕ) (marks : List ℕ) (i : ℕ) where
-  pub square_closed : closed marks i ≡ true → closed_square q ≡ square_line s q marks i
+  pub square_closed : closed marks i ≡ true → Some (closed_square q) ≡ square_line s q marks i
   unfolding square_line
   square_closed t = sym (pick_true _ _ t)
 
-  module _ (o : closed marks i ≡ false) {f : Fields} (e : f ≡ line_of s q at_word square_fields) where
-    by_fields : square_line s q marks i ≡ as_square i f
-    unfolding square_line
-    by_fields = pick_false _ _ o ∙ ap (as_square i) (sym e)
+  module _ (o : closed marks i ≡ false) where
+    pub square_unfound : None ≡ line_of s q at_word square_fields → None ≡ square_line s q marks i
+    unfolding square_line as_square
+    square_unfound e = ap (as_square i) e ∙ sym (pick_false _ _ o)
 
-    pub square_unfound : f.found ≡ false → no_square ≡ square_line s q marks i
-    unfolding as_square
-    square_unfound t = sym (by_fields ∙ pick_false _ _ t)
+    module _ {f : Fields} (e : Some f ≡ line_of s q at_word square_fields) where
+      by_fields : square_line s q marks i ≡ as_square i (Some f)
+      unfolding square_line
+      by_fields = pick_false _ _ o ∙ ap (as_square i) (sym e)
 
-    module _ (t : f.found ≡ true) where
-      pub square_other : (get_or f.values 0 0 ≡ i → ⊥) → no_square ≡ square_line s q marks i
+      pub square_other : (get_or f.values 0 0 ≡ i → ⊥) → None ≡ square_line s q marks i
       unfolding as_square
-      square_other d = sym (by_fields ∙ (pick_true _ _ t ∙ pick_false _ _ (ne_eqb _ _ d)))
+      square_other d = sym (by_fields ∙ pick_false _ _ (ne_eqb _ _ d))
 
       pub square_here :
           get_or f.values 0 0 ≡ i →
-          record { found = true; depth = get_or f.values 1 0; last = get_or f.values 2 0; lines = 1; next = f.next } ≡ square_line s q marks i
+          Some (record { depth = get_or f.values 1 0; last = get_or f.values 2 0; lines = 1; next = f.next }) ≡ square_line s q marks i
       unfolding as_square
-      square_here d = sym (by_fields ∙ (pick_true _ _ t ∙ pick_true _ _ (eq-eqb _ _ d)))
+      square_here d = sym (by_fields ∙ pick_true _ _ (eq-eqb _ _ d))
 
-  pub one_line : (square_line s q marks i).lines ≤ 1
-  unfolding square_line closed_square as_square no_square
-  one_line =
-      let f = line_of s q at_word square_fields in
-      let low : (l : SquareLine) → Type 0 = λ l. l.lines ≤ 1 in
-      pick_both low (closed marks i) (omega arith)
-      (pick_both low f.found (pick_both low _ (omega arith) (omega arith)) (omega arith))
+  pub one_line : (square_or (square_line s q marks i)).lines ≤ 1
+  unfolding square_line closed_square as_square
+  one_line = pick_both (λ (l : Option SquareLine). (square_or l).lines ≤ 1) (closed marks i) (omega arith) (go (line_of s q at_word square_fields))
+    where
+      go : (f : Option Fields) → (square_or (as_square i f)).lines ≤ 1
+      go (Some f) = pick_both (λ (l : Option SquareLine). (square_or l).lines ≤ 1) _ (omega arith) (omega arith)
+      go None = omega arith
 
 -- ---- one square more
 
@@ -69,9 +74,9 @@ module _ (s : List ℕ) (q : ℕ) (marks : List ℕ) where
   unfolding start_from
   start_none = refl
 
-  module _ (i : ℕ) {next : ℕ} (h : next ≡ start_from s q marks i) {l : SquareLine} (e : l ≡ square_line s next marks i) where
+  module _ (i : ℕ) {next : ℕ} (h : next ≡ start_from s q marks i) {l : SquareLine} (e : l ≡ square_or (square_line s next marks i)) where
     pub this_line : l ≡ square_from s q marks i
-    this_line = e ∙ ap (λ (k : ℕ). square_line s k marks i) h
+    this_line = e ∙ ap (λ (k : ℕ). square_or (square_line s k marks i)) h
 
     pub start_more : l.next ≡ start_from s q marks (i + 1)
     unfolding start_from
@@ -82,7 +87,7 @@ module _ (s : List ℕ) (q : ℕ) (marks : List ℕ) where
 
   -- the first squares' lines were passed, and the next one starts at `next`
   pub record Passing (next lines i : ℕ) : Type 0 where
-    pub so_far : (k : ℕ) → k < i → (square_from s q marks k).found ≡ true
+    pub so_far : (k : ℕ) → k < i → has_square s q marks k ≡ true
     pub here : next ≡ start_from s q marks i
     pub counted : lines ≡ lines_from s q marks i
     pub few : lines ≤ i
@@ -91,48 +96,54 @@ module _ (s : List ℕ) (q : ℕ) (marks : List ℕ) where
   unfolding lines_from
   passing_none = record { so_far = λ k l. absurd (not-suc-le-zero l); here = start_none; counted = sym (sum_none _); few = omega arith }
 
-  module _ {next lines i : ℕ} (a : Passing next lines i) {l : SquareLine} (e : l ≡ square_line s next marks i) where
-    this : l ≡ square_from s q marks i
-    this = this_line i a.here e
+  module _ {next lines i : ℕ} (a : Passing next lines i) where
+    square_here_is : square_line s next marks i ≡ square_line s (start_from s q marks i) marks i
+    square_here_is = ap (λ (k : ℕ). square_line s k marks i) a.here
 
-    pub line_few : l.lines ≤ 1
-    line_few = rw e (one_line s next marks i)
+    module _ {l : SquareLine} (e : Some l ≡ square_line s next marks i) where
+      this : l ≡ square_from s q marks i
+      this = this_line i a.here (ap square_or e)
 
-    pub passing_more : l.found ≡ true → Passing l.next (lines + l.lines) (i + 1)
-    unfolding lines_from
-    passing_more t =
-        record {
-          so_far = below_more _ _ a.so_far (sym (ap (λ (x : SquareLine). x.found) this) ∙ t);
-          here = start_more i a.here e;
-          counted = ap₂ (λ (x y : ℕ). x + y) a.counted (ap (λ (x : SquareLine). x.lines) this) ∙ sym (sum_more i _);
-          few = omega (arith, a.few, line_few);
-        }
+      pub line_few : l.lines ≤ 1
+      line_few = subst (λ (x : Option SquareLine). (square_or x).lines ≤ 1) (sym e) (one_line s next marks i)
 
-    pub passing_stop : (n : ℕ) → i < n → l.found ≡ false → SquaresPassed s q marks n (record { count = i; lines = lines; next = next })
+      pub passing_more : Passing l.next (lines + l.lines) (i + 1)
+      unfolding lines_from
+      passing_more =
+          record {
+            so_far = below_more _ _ a.so_far (sym (ap is_some (e ∙ square_here_is)));
+            here = start_more i a.here (ap square_or e);
+            counted = ap₂ (λ (x y : ℕ). x + y) a.counted (ap (λ (x : SquareLine). x.lines) this) ∙ sym (sum_more i _);
+            few = omega (arith, a.few, line_few);
+          }
+
+    pub passing_stop : None ≡ square_line s next marks i → (n : ℕ) → i < n →
+        SquaresPassed s q marks n (record { count = i; lines = lines; next = next })
     unfolding squares_read
-    passing_stop n b f =
+    passing_stop e n b =
         record {
-          count_is = sym (failing_at n (λ k. (square_from s q marks k).found) i b a.so_far (sym (ap (λ (x : SquareLine). x.found) this) ∙ f));
+          count_is = sym (failing_at n (has_square s q marks) i b a.so_far (sym (ap is_some (e ∙ square_here_is))));
           lines_are = a.counted;
           next_is = a.here;
           few = omega (arith, a.few);
         }
 
-  pub passing_all : {next lines i : ℕ} (a : Passing next lines i) (n : ℕ) → i ≡ n → SquaresPassed s q marks n (record { count = i; lines = lines; next = next })
+  pub passing_all : {next lines i : ℕ} (a : Passing next lines i) (m n : ℕ) → i ≡ m → m ≡ n → SquaresPassed s q marks n (record { count = m; lines = lines; next = next })
   unfolding squares_read
-  passing_all {next} {lines} {i} a n b =
+  passing_all {next} {lines} a m n e b =
+      let all : Passing next lines m = subst (Passing next lines) e a in
       record {
-        count_is = b ∙ sym (failing_none n (λ k. (square_from s q marks k).found) (λ k l. a.so_far k (omega (arith, b, l))));
-        lines_are = a.counted;
-        next_is = a.here;
-        few = omega (arith, a.few, b);
+        count_is = b ∙ sym (failing_none n (has_square s q marks) (λ k l. all.so_far k (omega (arith, b, l))));
+        lines_are = all.counted;
+        next_is = all.here;
+        few = omega (arith, all.few, b);
       }
 
 -- ---- 3
 
-pub closed-water : (s : List ℕ) (q : ℕ) (marks : List ℕ) (i : ℕ) → closed marks i ≡ true → water_fine (square_line s q marks i).depth (square_line s q marks i).last ≡ true
+pub closed-water : (s : List ℕ) (q : ℕ) (marks : List ℕ) (i : ℕ) → closed marks i ≡ true → water_fine (square_or (square_line s q marks i)).depth (square_or (square_line s q marks i)).last ≡ true
 unfolding square_line closed_square water_fine Rattle.reckon.specs.Tests.every
-closed-water s q marks i t = ap (λ (x : SquareLine). water_fine x.depth x.last) (pick_true _ _ t)
+closed-water s q marks i t = ap (λ (x : Option SquareLine). water_fine (square_or x).depth (square_or x).last) (pick_true _ _ t)
 
 pub waters_as : (s : List ℕ) (q : ℕ) (p : Plan) →
     waters_read s q p ≡ all_below (squares p.shape) (λ i. water_fine (depth_from s q p.marks i) (last_from s q p.marks i))

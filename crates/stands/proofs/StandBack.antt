@@ -24,7 +24,7 @@ use Rattle.hatches.specs.Lines.{hatch_word}
 use Rattle.hatches.specs.Log.{most_hatches, standing_fine}
 use Rattle.hatches.specs.declared.log.Hatches.{Hatches}
 use Rattle.stands.specs.Texts.{head_text, hatches_text, squares_text, stand_text}
-use Rattle.stands.specs.Laying.{most_start, most_given, head_of, named_from, named_in, square_from, start_from, depth_from, last_from, squares_read, lines_from, bad_line, hatch_fine, hatches_fine, draws_fine, state_fine, checks_of, saved_from, saved_in, number_of, stand_of, Water, water_from, water_after}
+use Rattle.stands.specs.Laying.{has_square, most_start, most_given, head_of, named_from, named_in, square_from, start_from, depth_from, last_from, squares_read, lines_from, bad_line, hatch_fine, hatches_fine, draws_fine, state_fine, checks_of, saved_from, saved_in, number_of, stand_of, Water, water_from, water_after}
 use Rattle.stands.specs.Inner.Back.{none_kept, Savable, ReadsBack, AllReadBack}
 use Rattle.stands.specs.Inner.Passing.{SquaresPassed, NamedRead}
 use Rattle.stands.specs.declared.heads.Head.{Head}
@@ -157,7 +157,7 @@ module _ (p : Plan) (inflow : List ℕ) (slots : ℕ) (depths lasts : List ℕ) 
   unfolding squares_read lines_from
   passed =
       record {
-        count_is = sym (failing_none n (λ i. (square_from s q₂ p.marks i).found) (found_back p depths lasts w.shape w.waters squares_stand));
+        count_is = sym (failing_none n (has_square s q₂ p.marks) (found_back p depths lasts w.shape w.waters squares_stand));
         lines_are = refl;
         next_is = refl;
         few = omega (arith, sum_le n 1 (λ i. (square_from s q₂ p.marks i).lines) (λ i l. one_line s (start_from s q₂ p.marks i) p.marks i));

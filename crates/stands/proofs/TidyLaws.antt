@@ -4,6 +4,7 @@ use mathlib.Core.Path.{◌≡◌, refl, sym, ap, ◌∙◌}
 use mathlib.Core.Bool.{Bool, true, false}
 use mathlib.Core.List.{List}
 use Prim.Native.Nat.{ℕ, zero, suc, ◌-◌, ◌≤◌, ◌<◌}
+use Rattle.std.proofs.Common.{Option, Some, None}
 use native.Mathlib.Omega.{arith}
 use lib.ListN.{length, get_or, set, replicate, length-set, length-replicate}
 use lib.Seq.{get_or-set_same, get_or-set_other}
@@ -105,9 +106,11 @@ tidy_added n h f l t =
 tidy_with : (s : List ℕ) (n : Named) (h : ℕ) → h < most_hatches → Tidy n.hatches n.litres → Tidy (with_hatch s n h).hatches (with_hatch s n h).litres
 unfolding with_hatch if_hatch
 tidy_with s n h l t =
-    let f = line_of s n.next hatch_word hatch_fields in
-    pick_both (λ (m : Named). Tidy m.hatches m.litres) f.found
-    (pick_both (λ (m : Named). Tidy m.hatches m.litres) _ (tidy_added n h f l t) t) t
+    go (line_of s n.next hatch_word hatch_fields)
+  where
+    go : (f : Option Fields) → Tidy (if_hatch n h f).hatches (if_hatch n h f).litres
+    go (Some f) = pick_both (λ (m : Named). Tidy m.hatches m.litres) _ (tidy_added n h f l t) t
+    go None = t
 
 named_tidy : (s : List ℕ) (q h : ℕ) → h ≤ most_hatches → Tidy (named_from s q h).hatches (named_from s q h).litres
 unfolding named_from

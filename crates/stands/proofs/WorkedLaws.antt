@@ -11,7 +11,7 @@ use Rattle.text.specs.Reading.{is_byte, word_at, is_digit, digits_of, value_from
 use Rattle.text.specs.Writing.{digits_in, decimal, field_text, fields_text, rest_text, line_text}
 use Rattle.hatches.specs.Log.{hatch_row, hatch_rows, standing_fine}
 use Rattle.stands.specs.Texts.{total_text, first_text, head_text, hatch_text, hatches_text, square_text, squares_text}
-use Rattle.stands.specs.Laying.{as_first, stand_line, as_total, total_line, head_of, if_hatch, with_hatch, named_from, no_square, closed_square, as_square, square_line, start_from, squares_read, lines_from, bad_after, hatch_fine, hatches_fine, draws_fine, state_fine}
+use Rattle.stands.specs.Laying.{as_first, stand_line, as_total, total_line, head_of, if_hatch, with_hatch, named_from, closed_square, as_square, square_line, start_from, squares_read, lines_from, bad_after, hatch_fine, hatches_fine, draws_fine, state_fine}
 use Rattle.stands.specs.Worked.{PutWorked, ReadWorked, LinesRefused, NumbersRefused}
 
 pub put_worked : PutWorked
@@ -19,11 +19,11 @@ unfolding bytes_of pick joined closed digits_in decimal field_text fields_text r
 put_worked = record { head = refl; hatches = refl; squares = refl }
 
 pub read_worked : ReadWorked
-unfolding bytes_of pick every all_below refusal tabulate closed is_byte word_at is_digit digits_of value_from well_formed number_from number_at field_at before read_fields line_ended read_rest read_line padded as_fields as_first stand_line as_total total_line head_of if_hatch with_hatch named_from no_square closed_square as_square square_line start_from
+unfolding bytes_of pick every all_below refusal tabulate closed is_byte word_at is_digit digits_of value_from well_formed number_from number_at field_at before read_fields line_ended read_rest read_line padded as_fields as_first stand_line as_total total_line head_of if_hatch with_hatch named_from closed_square as_square square_line start_from
 read_worked = record { head = refl; hatches = refl; first_square = refl; closed-square = refl; last_square = refl }
 
 pub lines_refused : LinesRefused
-unfolding bytes_of pick every all_below first_failing refusal tabulate sum_below closed is_byte word_at is_digit digits_of value_from well_formed number_from number_at field_at before read_fields line_ended read_rest read_line padded as_fields as_first stand_line as_total total_line head_of if_hatch with_hatch named_from no_square closed_square as_square square_line start_from squares_read lines_from bad_after
+unfolding bytes_of pick every all_below first_failing refusal tabulate sum_below closed is_byte word_at is_digit digits_of value_from well_formed number_from number_at field_at before read_fields line_ended read_rest read_line padded as_fields as_first stand_line as_total total_line head_of if_hatch with_hatch named_from closed_square as_square square_line start_from squares_read lines_from bad_after
 lines_refused =
     record {
       opening_two = refl;

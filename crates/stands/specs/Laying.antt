@@ -1,6 +1,6 @@
 -- What the desk's `lay` reads: the lines that `stand` prints, what they say, and when they are refused.
 -- Assumes nothing.
-use Rattle.std.specs.Prelude.{◌≡◌, Bool, true, false, ◌&&◌, ◌||◌, not, List, [], ◌∷◌, ℕ, zero, suc, ◌+◌, ◌-◌, ◌*◌, eqb, leb, ltb, length, get_or, set, replicate}
+use Rattle.std.specs.Prelude.{◌≡◌, Bool, true, false, ◌||◌, not, List, [], ◌∷◌, ℕ, zero, suc, ◌+◌, ◌-◌, ◌*◌, eqb, leb, ltb, length, get_or, set, replicate, Option, Some, None, is_some}
 use Rattle.reckon.specs.Tests.{pick, every, all_below, first_failing, ◌unless◌, refusal}
 use Rattle.reckon.specs.Lists.{tabulate, filled, sum_below}
 use Rattle.reckon.specs.Ranges.{most_litres}
@@ -32,16 +32,17 @@ use Rattle.stands.specs.declared.squares.SquareLine.{SquareLine}
 abbrev pub first_fields : ℕ
 first_fields = 4
 
-unfoldable pub as_first : Fields → StandLine
-as_first f =
+unfoldable pub as_first : Option Fields → StandLine
+as_first (Some f) =
     record {
-      found = f.found && leb (get_or f.values 3 0) 1;
+      found = leb (get_or f.values 3 0) 1;
       steps = get_or f.values 0 0;
       clock = get_or f.values 1 0;
       length = get_or f.values 2 0;
       opening = eqb (get_or f.values 3 0) 1;
       next = f.next;
     }
+as_first None = record { found = false; steps = 0; clock = 0; length = 0; opening = false; next = 0 }
 
 unfoldable pub stand_line : List ℕ → StandLine
 stand_line s = as_first (line_of s 0 stand_word first_fields)
@@ -50,11 +51,12 @@ stand_line s = as_first (line_of s 0 stand_word first_fields)
 abbrev pub total_fields : ℕ
 total_fields = 2
 
-unfoldable pub as_total : Fields → TotalLine
-as_total f = record { found = f.found; value = get_or f.values 0 0 * half + get_or f.values 1 0; next = f.next }
+unfoldable pub as_total : ℕ → Option Fields → TotalLine
+as_total q (Some f) = record { found = true; value = get_or f.values 0 0 * half + get_or f.values 1 0; next = f.next }
+as_total q None = record { found = false; value = 0; next = q }
 
 unfoldable pub total_line : List ℕ → ℕ → List ℕ → TotalLine
-total_line s q word = as_total (line_of s q word total_fields)
+total_line s q word = as_total q (line_of s q word total_fields)
 
 -- all five: "the line" of a refusal 12 is counted from 1
 module _ (s : List ℕ) where
@@ -114,8 +116,9 @@ hatch_added n h f =
     }
 
 -- where the next line has the number of place h, that hatch is named; else the line is left to what comes after
-unfoldable pub if_hatch : Named → ℕ → Fields → Named
-if_hatch n h f = pick f.found (pick (eqb (get_or f.values 0 0) (h + 1)) (hatch_added n h f) n) n
+unfoldable pub if_hatch : Named → ℕ → Option Fields → Named
+if_hatch n h (Some f) = pick (eqb (get_or f.values 0 0) (h + 1)) (hatch_added n h f) n
+if_hatch n h None = n
 
 unfoldable pub with_hatch : List ℕ → Named → ℕ → Named
 with_hatch s n h = if_hatch n h (line_of s n.next hatch_word hatch_fields)
@@ -137,36 +140,38 @@ named_in s = named_from s (head_of s).next most_hatches
 
 -- ---- the squares' lines
 
--- a line that is not the square's, and a closed square, which has none
-unfoldable pub no_square : SquareLine
-no_square = record { found = false; depth = 0; last = 0; lines = 0; next = 0 }
+-- a line that was read, or one of zeros; a closed square, which has none
+abbrev pub square_or : Option SquareLine → SquareLine
+square_or (Some line) = line
+square_or None = record { depth = 0; last = 0; lines = 0; next = 0 }
 
 unfoldable pub closed_square : ℕ → SquareLine
-closed_square q = record { found = true; depth = 0; last = 0; lines = 0; next = q }
+closed_square q = record { depth = 0; last = 0; lines = 0; next = q }
 
 -- "`at` square depth last"
 abbrev pub square_fields : ℕ
 square_fields = 3
 
-unfoldable pub as_square : ℕ → Fields → SquareLine
-as_square i f =
-    pick f.found
-    (pick (eqb (get_or f.values 0 0) i)
-    (record { found = true; depth = get_or f.values 1 0; last = get_or f.values 2 0; lines = 1; next = f.next })
-    no_square)
-    no_square
+unfoldable pub as_square : ℕ → Option Fields → Option SquareLine
+as_square i (Some f) =
+    pick (eqb (get_or f.values 0 0) i)
+    (Some (record { depth = get_or f.values 1 0; last = get_or f.values 2 0; lines = 1; next = f.next })) None
+as_square i None = None
 
 -- the line of square i at q
-unfoldable pub square_line : List ℕ → ℕ → List ℕ → ℕ → SquareLine
-square_line s q marks i = pick (closed marks i) (closed_square q) (as_square i (line_of s q at_word square_fields))
+unfoldable pub square_line : List ℕ → ℕ → List ℕ → ℕ → Option SquareLine
+square_line s q marks i = pick (closed marks i) (Some (closed_square q)) (as_square i (line_of s q at_word square_fields))
 
 -- "one for each square not closed, in order": where that of square i starts, the first at q
 unfoldable pub start_from : List ℕ → ℕ → List ℕ → ℕ → ℕ
 start_from s q marks zero = q
-start_from s q marks (suc i) = (square_line s (start_from s q marks i) marks i).next
+start_from s q marks (suc i) = (square_or (square_line s (start_from s q marks i) marks i)).next
+
+abbrev pub has_square : List ℕ → ℕ → List ℕ → ℕ → Bool
+has_square s q marks i = is_some (square_line s (start_from s q marks i) marks i)
 
 abbrev pub square_from : List ℕ → ℕ → List ℕ → ℕ → SquareLine
-square_from s q marks i = square_line s (start_from s q marks i) marks i
+square_from s q marks i = square_or (square_line s (start_from s q marks i) marks i)
 
 -- what it says
 abbrev pub depth_from : List ℕ → ℕ → List ℕ → ℕ → ℕ
@@ -177,7 +182,7 @@ last_from s q marks i = (square_from s q marks i).last
 
 -- how many of n squares stand before the first whose line cannot be read, and how many lines so many squares have
 unfoldable pub squares_read : List ℕ → ℕ → List ℕ → ℕ → ℕ
-squares_read s q marks n = first_failing n (λ i. (square_from s q marks i).found)
+squares_read s q marks n = first_failing n (has_square s q marks)
 
 unfoldable pub lines_from : List ℕ → ℕ → List ℕ → ℕ → ℕ
 lines_from s q marks n = sum_below n (λ i. (square_from s q marks i).lines)

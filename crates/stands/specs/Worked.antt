@@ -69,9 +69,9 @@ pub record ReadWorked : Type 0 where
         next = 58;
       }
   pub hatches : named_from (bytes_of hatch_lines) 0 9 ≡ record { hatches = two_hatches; litres = rates; lines = 2; next = 29 }
-  pub first_square : square_from (bytes_of square_lines) 0 meadow.marks 0 ≡ record { found = true; depth = 11; last = 21; lines = 1; next = 11 }
-  pub closed-square : square_from (bytes_of square_lines) 0 meadow.marks 1 ≡ record { found = true; depth = 0; last = 0; lines = 0; next = 11 }
-  pub last_square : square_from (bytes_of square_lines) 0 meadow.marks 3 ≡ record { found = true; depth = 13; last = 23; lines = 1; next = 33 }
+  pub first_square : square_from (bytes_of square_lines) 0 meadow.marks 0 ≡ record { depth = 11; last = 21; lines = 1; next = 11 }
+  pub closed-square : square_from (bytes_of square_lines) 0 meadow.marks 1 ≡ record { depth = 0; last = 0; lines = 0; next = 11 }
+  pub last_square : square_from (bytes_of square_lines) 0 meadow.marks 3 ≡ record { depth = 13; last = 23; lines = 1; next = 33 }
 
 -- the lines before the squares, as short as they can be
 abbrev short : String

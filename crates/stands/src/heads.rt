@@ -1,5 +1,5 @@
 // The lines before the hatches: `stand`, and four totals.
-ghost use Rattle.std.specs.Prelude.{◌≡◌, ◌&&◌, [], ◌∷◌, ◌*◌, ◌+◌, leb};
+ghost use Rattle.std.specs.Prelude.{◌≡◌, [], ◌∷◌, ◌*◌, ◌+◌};
 ghost use Rattle.reckon.specs.Tests.{◌unless◌, refusal};
 ghost use Rattle.stands.specs.Texts.{half};
 ghost use Rattle.stands.specs.Laying.{head_of, stand_line, total_line};
@@ -41,27 +41,25 @@ pub(crate) struct Head {
     pub(crate) next: usize,
 }
 
-// A line that was found, whose opening is 0 or 1.
-fn opening_fine(found: bool, opening: u32) -> bool
-    ensures { result ≡ (found && leb opening 1) }
-{
-    if !found {
-        return false;
-    }
-    opening <= 1
-}
-
 // `stand` steps clock length opening.
 const FIRST_FIELDS: usize = 4;
 
 fn stand_line(text: &[u8]) -> StandLine
     ensures { result ≡ stand_line text.now }
 {
-    let line = line_of(text, 0, b"stand", FIRST_FIELDS);
+    let Some(line) = line_of(text, 0, b"stand", FIRST_FIELDS) else {
+        return StandLine {
+            found: false,
+            steps: 0,
+            clock: 0,
+            length: 0,
+            opening: false,
+            next: 0,
+        };
+    };
     let values = line.values;
-    let found = opening_fine(line.found, values[3]);
     StandLine {
-        found: found,
+        found: values[3] <= 1,
         steps: values[0] as u64,
         clock: values[1] as u64,
         length: values[2] as u64,
@@ -83,11 +81,17 @@ const TOTAL_FIELDS: usize = 2;
 fn total_line(text: &[u8], at: usize, word: &[u8]) -> TotalLine
     ensures { result ≡ total_line text.now at word.now }
 {
-    let line = line_of(text, at, word, TOTAL_FIELDS);
+    let Some(line) = line_of(text, at, word, TOTAL_FIELDS) else {
+        return TotalLine {
+            found: false,
+            value: 0,
+            next: at,
+        };
+    };
     let values = line.values;
     let value = whole(values[0], values[1]);
     TotalLine {
-        found: line.found,
+        found: true,
         value: value,
         next: line.next,
     }

@@ -52,12 +52,10 @@ fn hatches_fine(hatches: Hatches, litres: [u32; 9], shape: Shape, marks: &[u8]) 
     requires { (ShapeInRange shape) × (squares shape ≤ length marks.now) }
     ensures { result ≡ hatches_fine (plan shape marks.now) hatches litres }
 {
-    let mut hatch: usize = 0;
-    while hatch < MOST_HATCHES {
+    for hatch in 0..MOST_HATCHES {
         if !place_fine(hatches, litres, hatch, shape, marks) {
             return false;
         }
-        hatch += 1;
     }
     true
 }

@@ -39,10 +39,9 @@ fn with_hatch(text: &[u8], so_far: Named, hatch: usize) -> Named
     requires { (hatch < most_hatches) × (so_far.lines < most_hatches) }
     ensures { result ≡ with_hatch text.now so_far hatch }
 {
-    let line = line_of(text, so_far.next, b"hatch", HATCH_FIELDS);
-    if !line.found {
+    let Some(line) = line_of(text, so_far.next, b"hatch", HATCH_FIELDS) else {
         return so_far;
-    }
+    };
     let values = line.values;
     if values[0] as usize != hatch + 1 {
         return so_far;
@@ -66,10 +65,8 @@ pub(crate) fn read_hatches(text: &[u8], at: usize) -> Named
     ensures { result ≡ named_from text.now at most_hatches }
 {
     let mut named = none_named(at);
-    let mut hatch: usize = 0;
-    while hatch < MOST_HATCHES {
+    for hatch in 0..MOST_HATCHES {
         named = with_hatch(text, named, hatch);
-        hatch += 1;
     }
     named
 }

@@ -93,10 +93,8 @@ fn put_hatches(out: &mut [u8], at: usize, hatches: Hatches, litres: [u32; 9]) ->
     ensures { PutWithin most_hatch_lines (hatches_text hatches litres) at out.old out.new result }
 {
     let mut next = at;
-    let mut hatch: usize = 0;
-    while hatch < MOST_HATCHES {
+    for hatch in 0..MOST_HATCHES {
         next = put_hatch(out, next, hatches, litres, hatch);
-        hatch += 1;
     }
     next
 }
@@ -136,10 +134,8 @@ fn put_squares(
 {
     let squares = squares_of(shape);
     let mut next = at;
-    let mut square: usize = 0;
-    while square < squares {
+    for square in 0..squares {
         next = put_square(out, next, shape, marks, depths, lasts, square);
-        square += 1;
     }
     next
 }

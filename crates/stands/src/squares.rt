@@ -6,7 +6,7 @@ ghost use Rattle.grid.specs.Squares.{ShapeInRange, squares};
 ghost use Rattle.grid.specs.Marks.{closed};
 ghost use Rattle.ledger.specs.Runs.{plan};
 ghost use Rattle.ledger.specs.Flows.{shut};
-ghost use Rattle.stands.specs.Laying.{depth_from, last_from, no_square, square_line, waters_read};
+ghost use Rattle.stands.specs.Laying.{depth_from, last_from, square_line, square_or, waters_read};
 ghost use Rattle.stands.specs.Inner.Passing.{SquaresPassed};
 
 use grid::marks::is_closed;
@@ -17,7 +17,6 @@ use text::reading::line_of;
 // A square's line: its depth and last leaving, how many lines it has (a closed square none), and where the next one starts.
 #[derive(Clone, Copy)]
 pub(crate) struct SquareLine {
-    pub(crate) found: bool,
     pub(crate) depth: u32,
     pub(crate) last: u32,
     pub(crate) lines: usize,
@@ -32,51 +31,45 @@ pub(crate) struct Scan {
     pub(crate) next: usize,
 }
 
-// A line that is not the square's.
-fn no_square() -> SquareLine
-    ensures { result ≡ no_square }
+// A square's line that was read, or one of zeros.
+fn square_or(line: Option<SquareLine>) -> SquareLine
+    ensures { result ≡ square_or line }
 {
-    SquareLine {
-        found: false,
+    line.unwrap_or(SquareLine {
         depth: 0,
         last: 0,
         lines: 0,
         next: 0,
-    }
+    })
 }
 
 // `at` square depth last.
 const SQUARE_FIELDS: usize = 3;
 
 // The line of a square at a position.
-fn square_line(text: &[u8], at: usize, marks: &[u8], square: usize) -> SquareLine
+fn square_line(text: &[u8], at: usize, marks: &[u8], square: usize) -> Option<SquareLine>
     requires { square < length marks.now }
     ensures { result ≡ square_line text.now at marks.now square }
 {
     if is_closed(marks, square) {
-        return SquareLine {
-            found: true,
+        return Some(SquareLine {
             depth: 0,
             last: 0,
             lines: 0,
             next: at,
-        };
+        });
     }
-    let line = line_of(text, at, b"at", SQUARE_FIELDS);
-    if !line.found {
-        return no_square();
-    }
+    let line = line_of(text, at, b"at", SQUARE_FIELDS)?;
     let values = line.values;
     if values[0] as usize != square {
-        return no_square();
+        return None;
     }
-    SquareLine {
-        found: true,
+    Some(SquareLine {
         depth: values[1],
         last: values[2],
         lines: 1,
         next: line.next,
-    }
+    })
 }
 
 // The squares' lines passed, up to the first that cannot be read.
@@ -87,22 +80,19 @@ pub(crate) fn pass_squares(text: &[u8], at: usize, shape: Shape, marks: &[u8]) -
     let squares = squares_of(shape);
     let mut next = at;
     let mut lines: usize = 0;
-    let mut square: usize = 0;
-    while square < squares {
-        let line = square_line(text, next, marks, square);
-        if !line.found {
+    for square in 0..squares {
+        let Some(line) = square_line(text, next, marks, square) else {
             return Scan {
                 count: square,
                 lines: lines,
                 next: next,
             };
-        }
+        };
         lines += line.lines;
         next = line.next;
-        square += 1;
     }
     Scan {
-        count: square,
+        count: squares,
         lines: lines,
         next: next,
     }
@@ -115,14 +105,12 @@ pub(crate) fn waters_read(text: &[u8], at: usize, shape: Shape, marks: &[u8]) ->
 {
     let squares = squares_of(shape);
     let mut next = at;
-    let mut square: usize = 0;
-    while square < squares {
-        let line = square_line(text, next, marks, square);
+    for square in 0..squares {
+        let line = square_or(square_line(text, next, marks, square));
         if !water_fine(line.depth, line.last) {
             return false;
         }
         next = line.next;
-        square += 1;
     }
     true
 }
@@ -155,11 +143,9 @@ pub(crate) fn store_squares(
 {
     let squares = squares_of(shape);
     let mut next = at;
-    let mut square: usize = 0;
-    while square < squares {
-        let line = square_line(text, next, marks, square);
+    for square in 0..squares {
+        let line = square_or(square_line(text, next, marks, square));
         put_water(marks, line, square, depths, lasts);
         next = line.next;
-        square += 1;
     }
 }

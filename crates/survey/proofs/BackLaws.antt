@@ -1,6 +1,7 @@
 -- Laws of a set moved back: the parts of filled rooms are what it says, it can be written where its checks pass, and a row too many shows as
 -- well as all of them.
 -- Assumes nothing.
+use Rattle.sheet.proofs.KindLaws.{run_side}
 use mathlib.Core.Path.{◌≡◌, refl, sym, ap, ap₂, subst, ◌∙◌}
 use mathlib.Core.Bool.{Bool, true, false, not}
 use mathlib.Core.List.{List, [], ◌∷◌}
@@ -24,12 +25,12 @@ use Rattle.checks.proofs.CheckLaws.{ready, run_checks_step}
 use Rattle.text.specs.Reading.{most_number, most_fields, line_from}
 use Rattle.text.specs.Inner.Standing.{Readable}
 use Rattle.text.proofs.ReadingLaws.{by_lt}
-use Rattle.raster.specs.Raster.{last_in_row, head_of, place_from, entry_from, entry_of, grid_bad}
+use Rattle.raster.specs.Raster.{head_in, value_of, is_shut, last_in_row, place_from, entry_from, entry_of, grid_bad}
 use Rattle.raster.specs.declared.amounts.Scale.{Scale}
 use Rattle.raster.specs.declared.amounts.Scale.TheVariants.{Metres, Whole}
 use Rattle.raster.proofs.RangeLaws.{entry_small, entry_closed}
-use Rattle.sheet.specs.Lines.{rain_word, inflow_word, run_line, as_run}
-use Rattle.sheet.specs.Sheet.{Rooms, rooms, table_rows, rows_read, checks_in, line_one, line_two, shape_of, rain_at, rain_rows, inflow_at, inflow_rows, heading_of, judged}
+use Rattle.sheet.specs.Lines.{rain_word, inflow_word}
+use Rattle.sheet.specs.Sheet.{has_one, has_two, Rooms, rooms, table_rows, rows_read, checks_in, line_one, line_two, shape_of, rain_at, rain_rows, inflow_at, inflow_rows, heading_of, judged}
 use Rattle.sheet.specs.Written.{sheet_written}
 use Rattle.sheet.specs.declared.reading.Heading.{Heading}
 use Rattle.sheet.proofs.JudgeLaws.{table_taken, looked_same, checks_looked}
@@ -98,15 +99,15 @@ module _ (t : Set) {read : Note} (n : NoteIs t.note read) where
       record { text = text; agree = agree; shape = ranges_of_fine (shape_of t.note) (every_each _ (sym shapes_same ∙ e)).0 }
 
 record NoteGood (s : List ℕ) : Type 0 where
-  first_line : (line_one s).found ≡ true
-  second_line : (line_two s).found ≡ true
+  first_line : has_one s ≡ true
+  second_line : has_two s ≡ true
   all_marks : squares (shape_of s) ≤ marks_read s
 
 whole_note : (s : List ℕ) → note_bad s ≡ 0 → NoteGood s
 unfolding note_bad
 whole_note s e =
-    let a = row-passes 1 (line_one s).found _ (omega arith) e in
-    let b = row-passes 2 (line_two s).found _ (omega arith) a.1 in
+    let a = row-passes 1 (has_one s) _ (omega arith) e in
+    let b = row-passes 2 (has_two s) _ (omega arith) a.1 in
     let c = row-passes _ _ _ (omega arith) b.1 in
     record { first_line = a.0; second_line = b.0; all_marks = leb-true _ _ c.0 }
 
@@ -117,15 +118,15 @@ mark_low s g i l =
 
 -- ---- grids that agree with the note
 
-columns_of : (t : Set) (k : Scale) (grid : List ℕ) → agrees t k grid ≡ true → (head_of grid).shape.columns ≡ (shape_of t.note).columns
+columns_of : (t : Set) (k : Scale) (grid : List ℕ) → agrees t k grid ≡ true → (head_in grid).shape.columns ≡ (shape_of t.note).columns
 unfolding agrees
 columns_of t k grid e = eqb-true _ _ (every_each _ e).1.0
 
 record Columns (t : Set) : Type 0 where
-  bed : (head_of t.bed).shape.columns ≡ (shape_of t.note).columns
-  depth : (head_of t.depth).shape.columns ≡ (shape_of t.note).columns
-  roughness : (head_of t.roughness).shape.columns ≡ (shape_of t.note).columns
-  rate : (head_of t.rate).shape.columns ≡ (shape_of t.note).columns
+  bed : (head_in t.bed).shape.columns ≡ (shape_of t.note).columns
+  depth : (head_in t.depth).shape.columns ≡ (shape_of t.note).columns
+  roughness : (head_in t.roughness).shape.columns ≡ (shape_of t.note).columns
+  rate : (head_in t.rate).shape.columns ≡ (shape_of t.note).columns
 
 columns_all : (t : Set) → all_agree t ≡ true → Columns t
 unfolding all_agree
@@ -165,7 +166,7 @@ MarksFilled note read room =
 abbrev pub ColumnFilled : Scale → List ℕ → Shape → List ℕ → Type 0
 ColumnFilled k grid shape room =
     room
-    ≡ filled (squares shape) (λ i. false) (λ i. (entry_from k grid (head_of grid).next shape.columns i).value) (replicate most_squares 0)
+    ≡ filled (squares shape) (λ i. false) (λ i. value_of (entry_from k grid (head_in grid).next shape.columns i)) (replicate most_squares 0)
 
 abbrev pub TableFilled : List ℕ → ℕ → List ℕ → ℕ → ℕ → List ℕ → Type 0
 TableFilled note p word width rows room = room ≡ placed (replicate (width * looked_rows) 0) 0 (table_rows note p word width rows)
@@ -240,8 +241,8 @@ module _ (t : Set) (good : SetGood t) where
     note_whole = whole_note s (note_good t good.text)
 
     side_same : (line_one s).side ≡ (heading_of s).rules.square_side
-    unfolding heading_of run_line as_run
-    side_same = refl
+    unfolding heading_of
+    side_same = sym (run_side s (line_from s 0 1) (line_one s).side)
 
     says_sayable : Sayable (heading_of s) (set_says t)
     unfolding set_says heading_of
@@ -259,15 +260,15 @@ module _ (t : Set) (good : SetGood t) where
 
     column_long : (k : Scale) (grid : List ℕ) → length (column t k grid) ≡ squares (shape_of s)
     unfolding column
-    column_long k grid = length-tabulate (squares (shape_of s)) (λ i. (entry_of k grid i).value)
+    column_long k grid = length-tabulate (squares (shape_of s)) (λ i. value_of (entry_of k grid i))
 
-    value_small : (k : Scale) (grid : List ℕ) (i : ℕ) → (entry_of k grid i).value ≤ most_number
+    value_small : (k : Scale) (grid : List ℕ) (i : ℕ) → value_of (entry_of k grid i) ≤ most_number
     value_small k grid i =
-        entry_small k grid (place_from k grid (head_of grid).next (head_of grid).shape.columns i) (last_in_row (head_of grid).shape.columns i)
+        entry_small k grid (place_from k grid (head_in grid).next (head_in grid).shape.columns i) (last_in_row (head_in grid).shape.columns i)
 
     column_small : (k : Scale) (grid : List ℕ) → Readable (column t k grid)
     unfolding column
-    column_small k grid = readable_tabulate (squares (shape_of s)) (λ i. (entry_of k grid i).value) (λ i l. value_small k grid i)
+    column_small k grid = readable_tabulate (squares (shape_of s)) (λ i. value_of (entry_of k grid i)) (λ i l. value_small k grid i)
 
     -- 0 at closed squares, which are the note's
     pub column_is :
@@ -276,7 +277,7 @@ module _ (t : Set) (good : SetGood t) where
     column_is k grid a =
         record {
           long = column_long k grid;
-          none = λ i l e. get_or-tabulate n value i l ∙ none_at i l (entry_of k grid i).closed refl (all_at n (same_closed t k grid) (every_each _ a).1.1.1.0 i l) (eqb-true _ 0 (sym (ap (λ (m : ℕ). eqb m 0) (get_or-tabulate n (note_mark s) i l)) ∙ e));
+          none = λ i l e. get_or-tabulate n value i l ∙ none_at i l (is_shut (entry_of k grid i)) refl (all_at n (same_closed t k grid) (every_each _ a).1.1.1.0 i l) (eqb-true _ 0 (sym (ap (λ (m : ℕ). eqb m 0) (get_or-tabulate n (note_mark s) i l)) ∙ e));
           small = λ i e. by_lt i n (λ l. omega (arith, get_or-tabulate n value i l, value_small k grid i)) (λ l. omega (arith, get_or-eq_default (tabulate n value) 0 {n = i} (omega (arith, l, length-tabulate n value))));
         }
       where
@@ -284,11 +285,11 @@ module _ (t : Set) (good : SetGood t) where
         n = squares (shape_of s)
 
         value : ℕ → ℕ
-        value i = (entry_of k grid i).value
+        value i = value_of (entry_of k grid i)
 
-        none_at : (i : ℕ) → i < n → (b : Bool) → (entry_of k grid i).closed ≡ b → pick (entry_of k grid i).closed (eqb (note_mark s i) 0) (not (eqb (note_mark s i) 0)) ≡ true → note_mark s i ≡ 0 → value i ≡ 0
+        none_at : (i : ℕ) → i < n → (b : Bool) → is_shut (entry_of k grid i) ≡ b → pick (is_shut (entry_of k grid i)) (eqb (note_mark s i) 0) (not (eqb (note_mark s i) 0)) ≡ true → note_mark s i ≡ 0 → value i ≡ 0
         none_at i l true c g z =
-            entry_closed k grid (place_from k grid (head_of grid).next (head_of grid).shape.columns i) (last_in_row (head_of grid).shape.columns i) c
+            entry_closed k grid (place_from k grid (head_in grid).next (head_in grid).shape.columns i) (last_in_row (head_in grid).shape.columns i) c
         none_at i l false c g z =
             not_both (sym (pick_false _ _ c) ∙ g) (ap not (eq-eqb _ 0 z))
 
@@ -368,16 +369,16 @@ module _ (t : Set) (good : SetGood t) {read : Note} (n : NoteIs t.note read) whe
   marks_of = λ j. tabulate (squares (shape_is n j)) (mark_from t.note (n.cells_at_is j) (shape_is n j).columns)
 
   column_of :
-      (k : Scale) (grid : List ℕ) → (head_of grid).shape.columns ≡ (shape_of t.note).columns →
-      tabulate (squares read.heading.shape) (λ i. (entry_from k grid (head_of grid).next read.heading.shape.columns i).value)
+      (k : Scale) (grid : List ℕ) → (head_in grid).shape.columns ≡ (shape_of t.note).columns →
+      tabulate (squares read.heading.shape) (λ i. value_of (entry_from k grid (head_in grid).next read.heading.shape.columns i))
       ≡ column t k grid
   unfolding column
   column_of k grid e =
-      (λ j. tabulate (squares (shape_is n j)) (λ i. (entry_from k grid (head_of grid).next (shape_is n j).columns i).value))
-      ∙ (λ j. tabulate (squares (shape_of t.note)) (λ i. (entry_from k grid (head_of grid).next (sym e j) i).value))
+      (λ j. tabulate (squares (shape_is n j)) (λ i. value_of (entry_from k grid (head_in grid).next (shape_is n j).columns i)))
+      ∙ (λ j. tabulate (squares (shape_of t.note)) (λ i. value_of (entry_from k grid (head_in grid).next (sym e j) i)))
 
   taken-column :
-      (k : Scale) (grid room : List ℕ) → (head_of grid).shape.columns ≡ (shape_of t.note).columns →
+      (k : Scale) (grid room : List ℕ) → (head_in grid).shape.columns ≡ (shape_of t.note).columns →
       ColumnFilled k grid read.heading.shape room → take (squares read.heading.shape) room ≡ column t k grid
   taken-column k grid room e f =
       ap (take (squares read.heading.shape)) f

@@ -1,5 +1,6 @@
 -- Lines that are written of what can be said read back: heading and tables, whatever the squares' lines are, and where each of these stands.
 -- Assumes nothing.
+use Rattle.std.proofs.Common.{Option, Some, is_some, option_map}
 use mathlib.Core.Path.{◌≡◌, refl, sym, ap, ap₂, subst, ◌∙◌}
 use mathlib.Core.Bool.{true, false}
 use mathlib.Core.List.{List, [], ◌∷◌, ◌++◌, append_assoc}
@@ -14,8 +15,8 @@ use Rattle.reckon.proofs.TestLaws.{pick_false, failing_at}
 use Rattle.reckon.proofs.ListLaws.{length-tabulate, tabulate_ext, joined_ext}
 use Rattle.grid.specs.Squares.{squares}
 use Rattle.grid.specs.declared.squares.Shape.{Shape}
-use Rattle.text.specs.Reading.{newline, most_number, most_fields, word_at, read_line, as_fields, padded, line_of, next_line, line_from}
-use Rattle.text.specs.Reading.Reading.{read, unread}
+use Rattle.text.specs.Reading.{Reading, newline, most_number, most_fields, word_at, read_line, as_fields, padded, line_of, next_line, line_from}
+use Rattle.text.specs.Reading.Reading.{read}
 use Rattle.text.specs.Writing.{fields_text, rest_text, line_text}
 use Rattle.text.specs.Inner.Standing.{plain, Readable, StandsAt}
 use Rattle.text.specs.declared.reading.Fields.{Fields}
@@ -26,7 +27,7 @@ use Rattle.text.proofs.LineLaws.{plain_both, plain_fields, line_ends}
 use Rattle.text.proofs.RoundTrip.{line-back, take-padded}
 use Rattle.text.proofs.WritingLaws.{line_text_long}
 use Rattle.sheet.specs.Lines.{grid_word, run_word, rain_word, inflow_word, grid_fields, run_fields, as_grid, grid_line, as_run, run_line}
-use Rattle.sheet.specs.Sheet.{Rooms, row_line, rows_read, table_rows, line_one, line_two, shape_of, cells_at, rain_at, rain_rows, rain_table, inflow_at, inflow_rows, inflow_table, after_all, heading_of}
+use Rattle.sheet.specs.Sheet.{grid_or, run_or, fields_or, row_at, has_row, Rooms, row_line, rows_read, table_rows, line_one, line_two, shape_of, cells_at, rain_at, rain_rows, rain_table, inflow_at, inflow_rows, inflow_table, after_all, heading_of}
 use Rattle.sheet.specs.Written.{grid_written, run_written, row_written, lines_written}
 use Rattle.sheet.specs.declared.lines.GridLine.{GridLine}
 use Rattle.sheet.specs.declared.lines.RunLine.{RunLine}
@@ -62,8 +63,8 @@ line_next_is {s} {p} {q} word vs w a =
 -- how it is read: as many numbers as it has
 line_of_is :
     {s : List ℕ} {p q : ℕ} (word vs : List ℕ) (count : ℕ) → length vs ≡ count → Readable vs → StandsAt s p (line_text word vs) q →
-    line_of s p word count ≡ as_fields p (read vs q)
-line_of_is {s} {p} {q} word vs count e h a = ap (as_fields p) (ap (read_line s p word) (sym e) ∙ line-back word vs a h)
+    line_of s p word count ≡ as_fields (read vs q)
+line_of_is {s} {p} {q} word vs count e h a = ap as_fields (ap (read_line s p word) (sym e) ∙ line-back word vs a h)
 
 -- ---- lines that stand one after the other, each ended by its newline
 
@@ -139,34 +140,29 @@ module _
   unfolding row_written
   rows_lined j l = row-line word (row_of width table j) w
 
-  row_is : (j : ℕ) → j < rows → row_line s p word width j ≡ as_fields (line_from s p j) (read (row_of width table j) (line_from s p (suc j)))
+  row_is : (j : ℕ) → j < rows → row_at s p word width j ≡ as_fields (read (row_of width table j) (line_from s p (suc j)))
   unfolding row_written
   row_is j l =
       line_of_is word (row_of width table j) width (length-tabulate width (λ k. get_or table (width * j + k) 0))
       (readable_tabulate width (λ k. get_or table (width * j + k) 0) (λ k h. readable_at table small (width * j + k)))
       (line-at rows (row_written word width table) rows_lined a j l)
 
-  row-found : (j : ℕ) → j < rows → (row_line s p word width j).found ≡ true
+  row-found : (j : ℕ) → j < rows → has_row s p word width j ≡ true
   unfolding as_fields
-  row-found j l = ap (λ (f : Fields). f.found) (row_is j l)
+  row-found j l = ap is_some (row_is j l)
 
   table_end : line_from s p rows ≡ q
   table_end = all_end rows (row_written word width table) rows_lined a
 
-  unfound : {f : Fields} (r : ℕ) → f ≡ as_fields r unread → f.found ≡ false
-  unfolding as_fields
-  unfound r e = ap (λ (g : Fields). g.found) e
-
-  last_unfound : (row_line s p word width rows).found ≡ false
-  unfolding read_line
+  last_unfound : has_row s p word width rows ≡ false
+  unfolding read_line as_fields
   last_unfound =
-      unfound (line_from s p rows)
-      (ap (as_fields (line_from s p rows)) (pick_false _ _ (ap (λ (k : ℕ). word_at s k word) table_end ∙ stop)))
+      ap (λ (r : Reading). is_some (as_fields r)) (pick_false _ _ (ap (λ (k : ℕ). word_at s k word) table_end ∙ stop))
 
   rows_back : rows_read s p word width ≡ rows
   unfolding rows_read
   rows_back =
-      failing_at (length s) (λ j. (row_line s p word width j).found) rows
+      failing_at (length s) (has_row s p word width) rows
       (omega (arith, joined_many rows (row_written word width table) (λ j l. line_long (rows_lined j l)), a.after, inside, within))
       row-found last_unfound
 
@@ -174,7 +170,7 @@ module _
   unfolding as_fields
   values_are j l =
       let wide = length-tabulate width (λ k. get_or table (width * j + k) 0) in
-      ap (λ (f : Fields). take width f.values) (row_is j l)
+      ap (λ (f : Option Fields). take width (fields_or f).values) (row_is j l)
       ∙ (ap (λ (k : ℕ). take k (padded (row_of width table j))) (sym wide) ∙ take-padded (row_of width table j) (omega (arith, wide, few)))
 
   table_back : (n : ℕ) → n ≡ rows → table_rows s p word width n ≡ table
@@ -255,20 +251,26 @@ module _
 
   -- lines 1 and 2
 
-  pub one_back : line_one lines ≡ record { found = true; shape = h.shape; side = h.rules.square_side; next = p₁ }
+  pub one_there : grid_line lines ≡ Some (record { shape = h.shape; side = h.rules.square_side; next = p₁ })
   unfolding grid_line as_grid as_fields padded tabulate
-  one_back = ap as_grid (line_of_is grid_word vs₁ grid_fields refl say.grid_small s₁)
+  one_there = ap (option_map as_grid) (line_of_is grid_word vs₁ grid_fields refl say.grid_small s₁)
+
+  pub one_back : line_one lines ≡ record { shape = h.shape; side = h.rules.square_side; next = p₁ }
+  one_back = ap grid_or one_there
 
   start_two : line_from lines 0 1 ≡ p₁
   unfolding line_from
   start_two = line_next_is grid_word vs₁ plain-grid s₁
 
-  run_back : (p D : ℕ) → p ≡ p₁ → D ≡ h.rules.square_side → run_line lines p D ≡ record { found = true; rules = h.rules; end = h.end; next = p₂ }
+  run_back : (p D : ℕ) → p ≡ p₁ → D ≡ h.rules.square_side → run_line lines p D ≡ Some (record { rules = h.rules; end = h.end; next = p₂ })
   unfolding run_line as_run as_fields padded tabulate
-  run_back p D e d = rw (e, d) (ap (as_run h.rules.square_side) (line_of_is run_word vs₂ run_fields refl say.run_small s₂))
+  run_back p D e d = rw (e, d) (ap (option_map (as_run h.rules.square_side)) (line_of_is run_word vs₂ run_fields refl say.run_small s₂))
 
-  pub two_back : line_two lines ≡ record { found = true; rules = h.rules; end = h.end; next = p₂ }
-  two_back = run_back (line_from lines 0 1) (line_one lines).side start_two (ap (λ (g : GridLine). g.side) one_back)
+  pub two_there : run_line lines (line_from lines 0 1) (line_one lines).side ≡ Some (record { rules = h.rules; end = h.end; next = p₂ })
+  two_there = run_back (line_from lines 0 1) (line_one lines).side start_two (ap (λ (g : GridLine). g.side) one_back)
+
+  pub two_back : line_two lines ≡ record { rules = h.rules; end = h.end; next = p₂ }
+  two_back = ap (run_or (line_one lines).side) two_there
 
   pub shape_back : shape_of lines ≡ h.shape
   shape_back = ap (λ (g : GridLine). g.shape) one_back
@@ -354,7 +356,7 @@ module _
       say.inflow_small s₅ inflow_stop low₄ (omega arith)
 
   heading_same :
-      {a b : Shape} {r : RunLine} {m n x y : ℕ} → a ≡ b → r ≡ record { found = true; rules = h.rules; end = h.end; next = p₂ } → m ≡ n → x ≡ y →
+      {a b : Shape} {r : RunLine} {m n x y : ℕ} → a ≡ b → r ≡ record { rules = h.rules; end = h.end; next = p₂ } → m ≡ n → x ≡ y →
       ◌≡◌ {A = Heading} (record { shape = a; rules = r.rules; end = r.end; rain_rows = m; inflow_rows = x })
       (record { shape = b; rules = h.rules; end = h.end; rain_rows = n; inflow_rows = y })
   heading_same e f g k = cc

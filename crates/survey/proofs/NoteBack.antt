@@ -1,5 +1,6 @@
 -- The note of what can be said reads back: the mark of each square is the one whose line stands there.
 -- Assumes nothing.
+use Rattle.std.proofs.Common.{is_some}
 use mathlib.Core.Path.{◌≡◌, refl, sym, ap, subst, ◌∙◌}
 use mathlib.Core.Bool.{true, false, not}
 use mathlib.Core.List.{List, [], ◌∷◌, ◌++◌, append_assoc}
@@ -22,12 +23,10 @@ use Rattle.text.proofs.LineLaws.{plain_cons, plain_both, plain_fields}
 use Rattle.sheet.specs.Lines.{cell_word, letter_of, line_head}
 use Rattle.sheet.specs.Sheet.{Rooms, shape_of, cells_at, after_all}
 use Rattle.sheet.specs.Written.{lines_written}
-use Rattle.sheet.specs.declared.lines.GridLine.{GridLine}
-use Rattle.sheet.specs.declared.lines.RunLine.{RunLine}
 use Rattle.sheet.specs.declared.reading.Heading.{Heading}
 use Rattle.survey.specs.Sets.{mark_line, note_text, note_mark, marks_read, note_bad}
 use Rattle.survey.specs.Inner.Writing.{Sayable}
-use Rattle.survey.proofs.LinesBack.{Line, one_back, two_back, shape_back, cell_at, after-back}
+use Rattle.survey.proofs.LinesBack.{one_there, two_there, Line, shape_back, cell_at, after-back}
 
 -- ---- the line of a square
 
@@ -138,9 +137,9 @@ module _ (h : Heading) (held : Rooms) (say : Sayable h held) where
   unfolding note_bad
   note_reads =
       passed_refusal _ (
-        ap (λ (g : GridLine). g.found) (one_back h held say cell marks_lined),
+        ap is_some (one_there h held say cell marks_lined),
         (
-          ap (λ (g : RunLine). g.found) (two_back h held say cell marks_lined),
+          ap is_some (two_there h held say cell marks_lined),
           (
             le-leb (squares (shape_of lines)) (marks_read lines) (omega (arith, marks_back, ap squares (shape_back h held say cell marks_lined))),
             (le-leb (length lines) (after_all lines) (omega (arith, after-back h held say cell marks_lined)), tt),

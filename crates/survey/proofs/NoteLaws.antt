@@ -1,5 +1,7 @@
 -- Laws of a note as it is read: which of a square's three lines stands, those passed one after the other, and the first that cannot be read.
 -- Assumes nothing.
+use Rattle.std.proofs.Common.{Option, Some, None, is_some, option_map}
+use Rattle.text.specs.declared.reading.Fields.{Fields}
 use mathlib.Core.Path.{◌≡◌, refl, sym, ap, subst, ◌∙◌}
 use mathlib.Core.Bool.{Bool, true, false, not}
 use mathlib.Core.List.{List, [], ◌∷◌, ◌++◌}
@@ -13,17 +15,17 @@ use borrow.Author.Count.{below_more}
 use borrow.Author.Tests.{lt-ltb, le-ltb, le-leb, lt-leb, not-false}
 use Rattle.reckon.specs.Lists.{placed}
 use Rattle.reckon.specs.Tables.{rain_kind, inflow_kind}
-use Rattle.reckon.proofs.TestLaws.{refusal_here, refusal_later, passed_refusal, failing_le, failing_at, failing_none, failing_fails}
+use Rattle.reckon.proofs.TestLaws.{not_both, refusal_here, refusal_later, passed_refusal, failing_le, failing_at, failing_none, failing_fails}
 use Rattle.grid.specs.Squares.{squares}
 use Rattle.grid.specs.declared.squares.Shape.{Shape}
-use Rattle.text.specs.Reading.{tab, newline, most_number, word_at, next_line, line_from}
+use Rattle.text.specs.Reading.{LineOf, line_of, tab, newline, most_number, word_at, next_line, line_from}
 use Rattle.text.specs.Writing.{fields_text, rest_text, Wrote}
 use Rattle.text.proofs.EndLaws.{next-within}
 use Rattle.text.proofs.StandLaws.{stands_word}
 use Rattle.text.proofs.WritingLaws.{fields_text_short, wrote_length}
 use Rattle.sheet.specs.Lines.{grid_word, run_word, cell_word, rain_word, inflow_word, letter_of, line_head}
 use Rattle.sheet.specs.Lines.{grid_line, run_line, as_grid, as_run, grid_fields, run_fields}
-use Rattle.sheet.specs.Sheet.{line_one, line_two, shape_of, cells_at, rain_at, inflow_at, after_all, first_cell, heading_of}
+use Rattle.sheet.specs.Sheet.{grid_or, run_or, has_one, has_two, line_one, line_two, shape_of, cells_at, rain_at, inflow_at, after_all, first_cell, heading_of}
 use Rattle.sheet.specs.Inner.Reading.{RowsCounted}
 use Rattle.sheet.specs.declared.lines.GridLine.{GridLine}
 use Rattle.sheet.specs.declared.lines.RunLine.{RunLine}
@@ -160,23 +162,35 @@ module _ (s : List ℕ) (p : ℕ) (shape : Shape) {next i : ℕ} (a : Marking s 
         passed = a.lines.passed;
       }
 
-  pub marks_all : i ≡ squares shape → MarksCounted s p shape (record { count = i; next = next })
+  pub marks_all : i ≡ squares shape → MarksCounted s p shape (record { count = squares shape; next = next })
   marks_all e =
       record {
-        count_is = e ∙ sym (failing_none (squares shape) (marked s p shape.columns) (λ k l. a.lines.so_far k (omega (arith, l, e))));
-        next_is = a.lines.here;
-        passed = a.lines.passed;
+        count_is = sym (failing_none (squares shape) (marked s p shape.columns) (λ k l. a.lines.so_far k (omega (arith, l, e))));
+        next_is = rw (← e) a.lines.here;
+        passed = omega (arith, e, a.lines.passed);
       }
 
 -- ---- a note
 
-grid_lined : (s : List ℕ) → (grid_line s).found ≡ true → Lined s 0 (grid_line s).next
+grid_lined : (s : List ℕ) {top : GridLine} → Some top ≡ grid_line s → Lined s 0 top.next
 unfolding grid_line as_grid
-grid_lined s t = row_lined s 0 grid_word grid_fields (omega arith) plain-grid refl t
+grid_lined s {top} e = go (line_of s 0 grid_word grid_fields) refl e
+  where
+    go : (f : Option Fields) → LineOf s 0 grid_word grid_fields f → Some top ≡ option_map as_grid f → Lined s 0 top.next
+    go (Some f) q e =
+        subst (λ (k : ℕ). Lined s 0 k) (sym (ap (λ (g : Option GridLine). (grid_or g).next) e))
+        (row_lined s 0 grid_word grid_fields (omega arith) plain-grid q)
+    go None q e = not_both refl (ap is_some e)
 
-run_lined : (s : List ℕ) (p D : ℕ) → (run_line s p D).found ≡ true → Lined s p (run_line s p D).next
+run_lined : (s : List ℕ) (p D : ℕ) {run : RunLine} → Some run ≡ run_line s p D → Lined s p run.next
 unfolding run_line as_run
-run_lined s p D t = row_lined s p run_word run_fields (omega arith) plain-run refl t
+run_lined s p D {run} e = go (line_of s p run_word run_fields) refl e
+  where
+    go : (f : Option Fields) → LineOf s p run_word run_fields f → Some run ≡ option_map (as_run D) f → Lined s p run.next
+    go (Some f) q e =
+        subst (λ (k : ℕ). Lined s p k) (sym (ap (λ (g : Option RunLine). (run_or D g).next) e))
+        (row_lined s p run_word run_fields (omega arith) plain-run q)
+    go None q e = not_both refl (ap is_some e)
 
 bad_read : {s : List ℕ} {r : Note} {k : ℕ} → r.bad ≡ k → (k ≡ 0 → ⊥) → k ≡ note_bad s → NoteRead s r
 bad_read h d e = record { bad_is = h ∙ e; note_is = λ z. absurd (d (sym h ∙ z)) }
@@ -185,167 +199,167 @@ marks_same : (s : List ℕ) → marks_read s ≡ marks_from s (cells_at s) (shap
 unfolding marks_read note_mark mark_at
 marks_same s = refl
 
-module _ (s : List ℕ) {top : GridLine} (g : top ≡ grid_line s) where
-  pub note_top : top.found ≡ false → {r : Note} → r.bad ≡ 1 → NoteRead s r
+pub note_top : (s : List ℕ) → None ≡ grid_line s → {r : Note} → r.bad ≡ 1 → NoteRead s r
+unfolding note_bad
+note_top s g h = bad_read h (λ z. omega (arith, z)) (sym (refusal_here 1 _ (sym (ap is_some g))))
+
+module _ (s : List ℕ) {top : GridLine} (grid_is : Some top ≡ grid_line s) where
+  g : top ≡ line_one s
+  g = ap grid_or grid_is
+
+  one_found : has_one s ≡ true
+  one_found = sym (ap is_some grid_is)
+
+  pub top_small : (top.shape.rows ≤ most_number) × (top.shape.columns ≤ most_number)
+  top_small =
+      let small = first_small s one_found in
+      subst (λ (l : GridLine). (l.shape.rows ≤ most_number) × (l.shape.columns ≤ most_number)) (sym g) (small.0, small.1.0)
+
+  one_lined : Lined s 0 top.next
+  one_lined = grid_lined s grid_is
+
+  one_next : top.next ≡ line_from s 0 1
+  unfolding line_from
+  one_next = sym (lined_next one_lined)
+
+  two_at : run_line s top.next top.side ≡ run_line s (line_from s 0 1) (line_one s).side
+  two_at = ap (λ (l : GridLine). run_line s top.next l.side) g ∙ ap (λ (p : ℕ). run_line s p (line_one s).side) one_next
+
+  pub note_run : None ≡ run_line s top.next top.side → {r : Note} → r.bad ≡ 2 → NoteRead s r
   unfolding note_bad
-  note_top f h = bad_read h (λ z. omega (arith, z)) (sym (refusal_here 1 _ (subst (λ (l : GridLine). l.found ≡ false) g f)))
+  note_run f h =
+      bad_read h (λ z. omega (arith, z)) (sym (refusal_later 1 _ one_found ∙ refusal_here 2 _ (sym (ap is_some (f ∙ two_at)))))
 
-  module _ (t : top.found ≡ true) where
-    one_found : (line_one s).found ≡ true
-    one_found = subst (λ (l : GridLine). l.found ≡ true) g t
+  module _ {run : RunLine} (run_is : Some run ≡ run_line s top.next top.side) where
+    two_is : run ≡ line_two s
+    two_is = ap (run_or (line_one s).side) (run_is ∙ two_at)
 
-    pub top_small : (top.shape.rows ≤ most_number) × (top.shape.columns ≤ most_number)
-    top_small =
-        let small = first_small s one_found in
-        subst (λ (l : GridLine). (l.shape.rows ≤ most_number) × (l.shape.columns ≤ most_number)) (sym g) (small.0, small.1.0)
+    two_lined : Lined s top.next run.next
+    two_lined = run_lined s top.next top.side run_is
 
-    one_lined : Lined s 0 top.next
-    one_lined = subst (λ (l : GridLine). Lined s 0 l.next) (sym g) (grid_lined s one_found)
-
-    one_next : top.next ≡ line_from s 0 1
+    two_next : run.next ≡ cells_at s
     unfolding line_from
-    one_next = sym (lined_next one_lined)
+    two_next = sym (lined_next two_lined) ∙ ap (next_line s) one_next
 
-    module _ {run : RunLine} (k : run ≡ run_line s top.next top.side) where
-      two_is : run ≡ line_two s
-      two_is =
-          k ∙ (ap (λ (l : GridLine). run_line s top.next l.side) g ∙ ap (λ (p : ℕ). run_line s p (grid_line s).side) one_next)
+    two_low : 2 ≤ run.next
+    two_low = omega (arith, lined_forth one_lined, lined_forth two_lined)
 
-      pub note_run : run.found ≡ false → {r : Note} → r.bad ≡ 2 → NoteRead s r
+    two_found : has_two s ≡ true
+    two_found = sym (ap is_some (run_is ∙ two_at))
+
+    -- the squares start in the text
+    pub run_inside : run.next ≤ length s
+    run_inside =
+        let one : top.next ≤ length s = subst (λ (q : ℕ). q ≤ length s) (lined_next one_lined) (next-within s 0 (omega arith)) in
+        subst (λ (q : ℕ). q ≤ length s) (lined_next two_lined) (next-within s top.next one)
+
+    module _ {cells : Scan} (c : MarksCounted s run.next top.shape cells) where
+      cells_are : MarksCounted s (cells_at s) (shape_of s) cells
+      cells_are =
+          subst (λ (p : ℕ). MarksCounted s p (shape_of s) cells) two_next
+          (subst (λ (l : GridLine). MarksCounted s run.next l.shape cells) g c)
+
+      count_same : cells.count ≡ marks_read s
+      count_same = cells_are.count_is ∙ sym (marks_same s)
+
+      shape_same : squares top.shape ≡ squares (shape_of s)
+      shape_same = ap (λ (l : GridLine). squares l.shape) g
+
+      pub note_cells : cells.count < squares top.shape → {r : Note} → r.bad ≡ cells.count + first_cell → NoteRead s r
       unfolding note_bad
-      note_run f h =
+      note_cells l h =
           bad_read h (λ z. omega (arith, z))
-          (sym (refusal_later 1 _ one_found ∙ refusal_here 2 _ (subst (λ (l : RunLine). l.found ≡ false) two_is f)))
+          (sym
+          (refusal_later 1 _ one_found
+          ∙ (refusal_later 2 _ two_found
+          ∙ (refusal_here _ _ (lt-leb (squares (shape_of s)) (marks_read s) (omega (arith, l, shape_same, count_same)))
+          ∙ ap (λ (n : ℕ). n + first_cell) (sym count_same)))))
 
-      module _ (f : run.found ≡ true) where
-        two_lined : Lined s top.next run.next
-        two_lined =
-            subst (λ (l : RunLine). Lined s top.next l.next) (sym k)
-            (run_lined s top.next top.side (subst (λ (l : RunLine). l.found ≡ true) k f))
+      module _
+          (h : squares top.shape ≤ cells.count) {rain inflow : Scan} (ra : RowsCounted s cells.next rain_word rain_kind.width rain)
+          (fl : RowsCounted s rain.next inflow_word inflow_kind.width inflow) where
+        few_marks : marks_read s ≤ squares (shape_of s)
+        unfolding marks_read
+        few_marks = failing_le _ _
 
-        two_next : run.next ≡ cells_at s
-        unfolding line_from
-        two_next = sym (lined_next two_lined) ∙ ap (next_line s) one_next
+        all_marks : cells.count ≡ squares (shape_of s)
+        all_marks = omega (arith, h, shape_same, count_same, few_marks)
 
-        two_low : 2 ≤ run.next
-        two_low = omega (arith, lined_forth one_lined, lined_forth two_lined)
+        rain-at : cells.next ≡ rain_at s
+        rain-at = cells_are.next_is ∙ ap (line_from s (cells_at s)) all_marks
 
-        two_found : (line_two s).found ≡ true
-        two_found = subst (λ (l : RunLine). l.found ≡ true) two_is f
+        rain_are : RowsCounted s (rain_at s) rain_word rain_kind.width rain
+        rain_are = subst (λ (p : ℕ). RowsCounted s p rain_word rain_kind.width rain) rain-at ra
 
-        -- the squares start in the text
-        pub run_inside : run.next ≤ length s
-        run_inside =
-            let one : top.next ≤ length s = subst (λ (q : ℕ). q ≤ length s) (lined_next one_lined) (next-within s 0 (omega arith)) in
-            subst (λ (q : ℕ). q ≤ length s) (lined_next two_lined) (next-within s top.next one)
+        inflow-at : rain.next ≡ inflow_at s
+        inflow-at = rain_are.next_is ∙ ap (line_from s (rain_at s)) rain_are.count_is
 
-        module _ {cells : Scan} (c : MarksCounted s run.next top.shape cells) where
-          cells_are : MarksCounted s (cells_at s) (shape_of s) cells
-          cells_are =
-              subst (λ (p : ℕ). MarksCounted s p (shape_of s) cells) two_next
-              (subst (λ (l : GridLine). MarksCounted s run.next l.shape cells) g c)
+        inflow_are : RowsCounted s (inflow_at s) inflow_word inflow_kind.width inflow
+        inflow_are = subst (λ (p : ℕ). RowsCounted s p inflow_word inflow_kind.width inflow) inflow-at fl
 
-          count_same : cells.count ≡ marks_read s
-          count_same = cells_are.count_is ∙ sym (marks_same s)
+        after-at : inflow.next ≡ after_all s
+        after-at = inflow_are.next_is ∙ ap (line_from s (inflow_at s)) inflow_are.count_is
 
-          shape_same : squares top.shape ≡ squares (shape_of s)
-          shape_same = ap (λ (l : GridLine). squares l.shape) g
+        -- the line after all is not past the numbers that are counted with
+        pub note_lines : squares top.shape + rain.count + inflow.count + 2 ≤ inflow.next
+        note_lines = omega (arith, two_low, c.passed, ra.passed, fl.passed, h)
 
-          pub note_cells : cells.count < squares top.shape → {r : Note} → r.bad ≡ cells.count + first_cell → NoteRead s r
-          unfolding note_bad
-          note_cells l h =
-              bad_read h (λ z. omega (arith, z))
-              (sym
-              (refusal_later 1 _ one_found
-              ∙ (refusal_later 2 _ two_found
-              ∙ (refusal_here _ _ (lt-leb (squares (shape_of s)) (marks_read s) (omega (arith, l, shape_same, count_same)))
-              ∙ ap (λ (n : ℕ). n + first_cell) (sym count_same)))))
+        marks-fine : leb (squares (shape_of s)) (marks_read s) ≡ true
+        marks-fine = le-leb (squares (shape_of s)) (marks_read s) (omega (arith, all_marks, count_same))
 
-          module _
-              (h : squares top.shape ≤ cells.count) {rain inflow : Scan} (ra : RowsCounted s cells.next rain_word rain_kind.width rain)
-              (fl : RowsCounted s rain.next inflow_word inflow_kind.width inflow) where
-            few_marks : marks_read s ≤ squares (shape_of s)
-            unfolding marks_read
-            few_marks = failing_le _ _
+        pub note_rest :
+            inflow.next < length s → {r : Note} → r.bad ≡ squares top.shape + rain.count + inflow.count + first_cell → NoteRead s r
+        unfolding note_bad
+        note_rest l b =
+            bad_read b (λ z. omega (arith, z))
+            (sym
+            (refusal_later 1 _ one_found
+            ∙ (refusal_later 2 _ two_found
+            ∙ (refusal_later _ _ marks-fine
+            ∙ (refusal_here _ _ (lt-leb (length s) (after_all s) (omega (arith, l, after-at)))
+            ∙ omega (arith, shape_same, rain_are.count_is, inflow_are.count_is))))))
 
-            all_marks : cells.count ≡ squares (shape_of s)
-            all_marks = omega (arith, h, shape_same, count_same, few_marks)
+        heading_here :
+            record { shape = top.shape; rules = run.rules; end = run.end; rain_rows = rain.count; inflow_rows = inflow.count }
+            ≡ heading_of s
+        unfolding heading_of
+        heading_here =
+            λ j.
+            record {
+              shape = (g j).shape;
+              rules = (two_is j).rules;
+              end = (two_is j).end;
+              rain_rows = rain_are.count_is j;
+              inflow_rows = inflow_are.count_is j;
+            }
 
-            rain-at : cells.next ≡ rain_at s
-            rain-at = cells_are.next_is ∙ ap (line_from s (cells_at s)) all_marks
-
-            rain_are : RowsCounted s (rain_at s) rain_word rain_kind.width rain
-            rain_are = subst (λ (p : ℕ). RowsCounted s p rain_word rain_kind.width rain) rain-at ra
-
-            inflow-at : rain.next ≡ inflow_at s
-            inflow-at = rain_are.next_is ∙ ap (line_from s (rain_at s)) rain_are.count_is
-
-            inflow_are : RowsCounted s (inflow_at s) inflow_word inflow_kind.width inflow
-            inflow_are = subst (λ (p : ℕ). RowsCounted s p inflow_word inflow_kind.width inflow) inflow-at fl
-
-            after-at : inflow.next ≡ after_all s
-            after-at = inflow_are.next_is ∙ ap (line_from s (inflow_at s)) inflow_are.count_is
-
-            -- the line after all is not past the numbers that are counted with
-            pub note_lines : squares top.shape + rain.count + inflow.count + 2 ≤ inflow.next
-            note_lines = omega (arith, two_low, c.passed, ra.passed, fl.passed, h)
-
-            marks-fine : leb (squares (shape_of s)) (marks_read s) ≡ true
-            marks-fine = le-leb (squares (shape_of s)) (marks_read s) (omega (arith, all_marks, count_same))
-
-            pub note_rest :
-                inflow.next < length s → {r : Note} → r.bad ≡ squares top.shape + rain.count + inflow.count + first_cell → NoteRead s r
-            unfolding note_bad
-            note_rest l b =
-                bad_read b (λ z. omega (arith, z))
-                (sym
-                (refusal_later 1 _ one_found
-                ∙ (refusal_later 2 _ two_found
-                ∙ (refusal_later _ _ marks-fine
-                ∙ (refusal_here _ _ (lt-leb (length s) (after_all s) (omega (arith, l, after-at)))
-                ∙ omega (arith, shape_same, rain_are.count_is, inflow_are.count_is))))))
-
-            heading_here :
-                record { shape = top.shape; rules = run.rules; end = run.end; rain_rows = rain.count; inflow_rows = inflow.count }
-                ≡ heading_of s
-            unfolding heading_of
-            heading_here =
-                λ j.
-                record {
-                  shape = (g j).shape;
-                  rules = (two_is j).rules;
-                  end = (two_is j).end;
-                  rain_rows = rain_are.count_is j;
-                  inflow_rows = inflow_are.count_is j;
-                }
-
-            pub note_good :
-                length s ≤ inflow.next →
-                NoteRead s
-                (record {
-                  bad = 0;
-                  heading =
-                      record { shape = top.shape; rules = run.rules; end = run.end; rain_rows = rain.count; inflow_rows = inflow.count };
-                  cells_at = run.next;
-                  rain_at = cells.next;
-                  inflow_at = rain.next;
-                })
-            unfolding note_bad
-            note_good l =
-                record {
-                  bad_is =
-                      sym
-                      (passed_refusal _ (
-                        one_found,
-                        (two_found, (marks-fine, (le-leb (length s) (after_all s) (omega (arith, l, after-at)), tt))),
-                      ));
-                  note_is =
-                      λ z.
-                      record {
-                        one_found = one_found;
-                        heading_is = heading_here;
-                        cells_at_is = two_next;
-                        rain_at_is = rain-at;
-                        inflow_at_is = inflow-at;
-                      };
-                }
+        pub note_good :
+            length s ≤ inflow.next →
+            NoteRead s
+            (record {
+              bad = 0;
+              heading =
+                  record { shape = top.shape; rules = run.rules; end = run.end; rain_rows = rain.count; inflow_rows = inflow.count };
+              cells_at = run.next;
+              rain_at = cells.next;
+              inflow_at = rain.next;
+            })
+        unfolding note_bad
+        note_good l =
+            record {
+              bad_is =
+                  sym
+                  (passed_refusal _ (
+                    one_found,
+                    (two_found, (marks-fine, (le-leb (length s) (after_all s) (omega (arith, l, after-at)), tt))),
+                  ));
+              note_is =
+                  λ z.
+                  record {
+                    one_found = one_found;
+                    heading_is = heading_here;
+                    cells_at_is = two_next;
+                    rain_at_is = rain-at;
+                    inflow_at_is = inflow-at;
+                  };
+            }

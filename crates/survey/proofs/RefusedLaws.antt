@@ -1,5 +1,7 @@
 -- Laws of a set that is refused: its length, its text, 14 and 1, each where those before it do not apply; the room stays as it was.
 -- Assumes nothing.
+use Rattle.text.specs.Reading.{line_from}
+use Rattle.sheet.proofs.KindLaws.{run_side}
 use mathlib.Core.Path.{◌≡◌, refl, sym, ap, ◌∙◌}
 use mathlib.Core.Bool.{Bool, true, false}
 use mathlib.Core.List.{List, [], ◌∷◌}
@@ -10,7 +12,6 @@ use Rattle.reckon.specs.Ranges.{side_fine}
 use Rattle.reckon.proofs.TestLaws.{pick_true, pick_false, refusal_here, not_both}
 use Rattle.grid.specs.Squares.{shape_fine}
 use Rattle.checks.specs.Refusals.{check_refusals}
-use Rattle.sheet.specs.Lines.{run_line, as_run}
 use Rattle.sheet.specs.Sheet.{line_one, shape_of, checks_in, heading_of, judged}
 use Rattle.sheet.specs.declared.reading.Heading.{Heading}
 use Rattle.sheet.specs.declared.reading.Sheet.{Sheet}
@@ -79,8 +80,13 @@ module _ (t : Set) (old : List ℕ) where
 
       module _ (agree : all_agree t ≡ true) (bad : every (shape_fine (shape_of t.note) ∷ side_fine (line_one t.note).side ∷ []) ≡ false) where
         one : set_number t ≡ 1
-        unfolding set_number checks_in check_refusals run_line as_run
-        one = pick_true _ _ agree ∙ refusal_here 1 _ (two_fail _ _ _ bad)
+        unfolding set_number checks_in check_refusals
+        one =
+            pick_true _ _ agree
+            ∙ refusal_here 1 _
+            (two_fail _ _ _
+            (ap (λ (D : ℕ). every (shape_fine (shape_of t.note) ∷ side_fine D ∷ [])) (run_side t.note (line_from t.note 0 1) (line_one t.note).side)
+            ∙ bad))
 
         pub shape_bad : MovesSet t old (Moved-as.Refused 1 0) old
         shape_bad = number_refused one (λ z. omega (arith, z))

@@ -1,5 +1,8 @@
 -- What a sheet that is read well says can be said: its numbers can be read, its marks have letters, its tables have whole rows.
 -- Assumes nothing.
+use Rattle.text.specs.declared.reading.Fields.{Fields}
+use Rattle.std.proofs.Common.{take, Option, Some, None, is_some, option_map}
+use Rattle.sheet.specs.declared.lines.RunLine.{RunLine}
 use mathlib.Core.Path.{◌≡◌, refl, sym, ap, subst, ◌∙◌}
 use mathlib.Core.Bool.{Bool, true, false}
 use mathlib.Core.List.{List, [], ◌∷◌, ◌++◌}
@@ -14,12 +17,12 @@ use Rattle.reckon.proofs.ListLaws.{length-filled, filled_in, filled_skipped}
 use Rattle.grid.specs.Squares.{squares}
 use Rattle.grid.specs.Marks.{closed}
 use Rattle.grid.proofs.MarkLaws.{closed_past}
-use Rattle.text.specs.Reading.{most_number, most_fields, rest_of_line, line_of, line_from}
+use Rattle.text.specs.Reading.{fields_at, LineOf, RestOfLine, most_number, most_fields, rest_of_line, line_of, line_from}
 use Rattle.text.specs.Inner.Standing.{Readable}
 use Rattle.text.proofs.ReadingLaws.{by_lt}
 use Rattle.text.proofs.RoundTrip.{rest_found, line_found}
-use Rattle.sheet.specs.Lines.{grid_word, run_word, rain_word, inflow_word, grid_fields, run_fields, open_fields, as_grid, grid_line, as_run, run_line, no_cell, closed_cell, as_open, open_cell, marked_cell, placed_cell, cell_line}
-use Rattle.sheet.specs.Sheet.{Rooms, cell_from, closed_from, row_line, rows_read, table_rows, line_one, shape_of, cells_at, rain_at, rain_rows, inflow_at, inflow_rows, cells_filled, said, heading_of}
+use Rattle.sheet.specs.Lines.{cell_word, place_fields, grid_word, run_word, rain_word, inflow_word, grid_fields, run_fields, open_fields, as_grid, grid_line, as_run, run_line, closed_cell, as_open, open_cell, marked_cell, placed_cell, cell_line}
+use Rattle.sheet.specs.Sheet.{grid_or, run_or, cell_or, fields_or, has_one, has_row, Rooms, cell_from, closed_from, rows_read, table_rows, line_one, shape_of, cells_at, rain_at, rain_rows, inflow_at, inflow_rows, cells_filled, said, heading_of}
 use Rattle.sheet.specs.declared.lines.CellLine.{CellLine}
 use Rattle.sheet.specs.declared.reading.Heading.{Heading}
 use Rattle.sheet.proofs.KindLaws.{choice}
@@ -32,22 +35,28 @@ use Rattle.survey.proofs.LinesBack.{readable_all}
 
 -- ---- a square's line: its numbers can be read where it is found
 
-abbrev Small : CellLine → Type 0
-Small c = c.found ≡ true → Readable (c.bed ∷ c.roughness ∷ c.depth ∷ c.rate ∷ [])
+abbrev Small : Option CellLine → Type 0
+Small (Some c) = Readable (c.bed ∷ c.roughness ∷ c.depth ∷ c.rate ∷ [])
+Small None = Unit {0}
 
-none_small : Small no_cell
-unfolding no_cell
-none_small e = not_both e refl
+small_of : (c : Option CellLine) → Small c → is_some c ≡ true →
+    Readable ((cell_or c).bed ∷ (cell_or c).roughness ∷ (cell_or c).depth ∷ (cell_or c).rate ∷ [])
+small_of (Some c) h e = h
+small_of None h e = not_both e refl
 
 closed_small : (s : List ℕ) (p : ℕ) → Small (closed_cell s p)
 unfolding closed_cell
-closed_small s p = choice Small _ (λ t e. (omega arith, (omega arith, (omega arith, (omega arith, tt))))) (λ f. none_small)
+closed_small s p = choice Small _ (λ t. (omega arith, (omega arith, (omega arith, (omega arith, tt))))) (λ f. tt)
 
 open_small : (s : List ℕ) (p mark : ℕ) → Small (open_cell s p mark)
 unfolding open_cell as_open tabulate
-open_small s p mark e =
-    let a = rest_found {f = rest_of_line s p open_fields} s p open_fields (omega arith) e refl in
-    subst Readable (first_of open_fields (rest_of_line s p open_fields).values a.many) a.readable
+open_small s p mark = go (rest_of_line s p open_fields) refl
+  where
+    go : (f : Option Fields) → RestOfLine s p open_fields f → Small (option_map (as_open mark) f)
+    go (Some f) e =
+        let a = rest_found {f = f} s p open_fields (omega arith) e in
+        subst Readable (first_of open_fields f.values a.many) a.readable
+    go None e = tt
 
 marked_small : (s : List ℕ) (p : ℕ) → Small (marked_cell s p)
 unfolding marked_cell
@@ -55,15 +64,16 @@ marked_small s p =
     choice Small _
     (λ t.
     choice Small _ (λ x. closed_small s (p + 2))
-    (λ x. choice Small _ (λ o. open_small s (p + 2) 1) (λ o. choice Small _ (λ e. open_small s (p + 2) 2) (λ e. none_small))))
-    (λ t. none_small)
+    (λ x. choice Small _ (λ o. open_small s (p + 2) 1) (λ o. choice Small _ (λ e. open_small s (p + 2) 2) (λ e. tt))))
+    (λ t. tt)
 
 cell_small : (s : List ℕ) (p row column : ℕ) → Small (cell_line s p row column)
 unfolding cell_line placed_cell
-cell_small s p row column =
-    choice Small _
-    (λ w. choice Small _ (λ f. choice Small _ (λ r. choice Small _ (λ c. marked_small s _) (λ c. none_small)) (λ r. none_small)) (λ f. none_small))
-    (λ w. none_small)
+cell_small s p row column = choice Small _ (λ w. go (fields_at s (p + length cell_word) place_fields)) (λ w. tt)
+  where
+    go : (f : Option Fields) → Small (placed_cell s row column f)
+    go (Some f) = choice Small _ (λ r. choice Small _ (λ c. marked_small s f.next) (λ c. tt)) (λ r. tt)
+    go None = tt
 
 -- ---- a table
 
@@ -82,30 +92,40 @@ pub table_small : (s : List ℕ) (p : ℕ) (word : List ℕ) (width : ℕ) → w
 unfolding table_rows rows_read
 table_small s p word width few =
     readable_joined _ _
-    (λ j l. (line_found s (line_from s p j) width few (failing_before (length s) (λ j. (row_line s p word width j).found) j l) word refl).readable)
+    (λ j l. small j _ refl (failing_before (length s) (has_row s p word width) j l))
+  where
+    small : (j : ℕ) (f : Option Fields) → LineOf s (line_from s p j) word width f → is_some f ≡ true → Readable (take width (fields_or f).values)
+    small j (Some f) e t = (line_found s (line_from s p j) width few word e).readable
+    small j None e t = not_both t refl
 
 -- ---- lines 1 and 2
 
-pub first_small : (s : List ℕ) → (line_one s).found ≡ true → Readable ((shape_of s).rows ∷ (shape_of s).columns ∷ (line_one s).side ∷ [])
+pub first_small : (s : List ℕ) → has_one s ≡ true → Readable ((shape_of s).rows ∷ (shape_of s).columns ∷ (line_one s).side ∷ [])
 unfolding grid_line as_grid tabulate
-first_small s t =
-    let a = line_found s 0 grid_fields (omega arith) t grid_word refl in
-    subst Readable (first_of grid_fields (line_of s 0 grid_word grid_fields).values a.many) a.readable
+first_small s t = go (line_of s 0 grid_word grid_fields) refl t
+  where
+    go : (f : Option Fields) → LineOf s 0 grid_word grid_fields f → is_some (option_map as_grid f) ≡ true →
+        Readable
+        ((grid_or (option_map as_grid f)).shape.rows ∷ (grid_or (option_map as_grid f)).shape.columns ∷ (grid_or (option_map as_grid f)).side ∷ [])
+    go (Some f) e t =
+        let a = line_found s 0 grid_fields (omega arith) grid_word e in
+        subst Readable (first_of grid_fields f.values a.many) a.readable
+    go None e t = not_both t refl
 
-pub second_small : (s : List ℕ) (p D : ℕ) → (run_line s p D).found ≡ true →
-    Readable
-    ((run_line s p D).rules.tolerance
-    ∷ (run_line s p D).rules.shortest
-    ∷ (run_line s p D).rules.longest
-    ∷ (run_line s p D).rules.update
-    ∷ (run_line s p D).end
-    ∷ (run_line s p D).rules.edge
-    ∷ (run_line s p D).rules.edition
-    ∷ [])
+abbrev run_numbers : RunLine → List ℕ
+run_numbers r =
+    r.rules.tolerance ∷ r.rules.shortest ∷ r.rules.longest ∷ r.rules.update ∷ r.end ∷ r.rules.edge ∷ r.rules.edition ∷ []
+
+pub second_small : (s : List ℕ) (p D : ℕ) → is_some (run_line s p D) ≡ true → Readable (run_numbers (run_or D (run_line s p D)))
 unfolding run_line as_run tabulate
-second_small s p D t =
-    let a = line_found s p run_fields (omega arith) t run_word refl in
-    subst Readable (first_of run_fields (line_of s p run_word run_fields).values a.many) a.readable
+second_small s p D t = go (line_of s p run_word run_fields) refl t
+  where
+    go : (f : Option Fields) → LineOf s p run_word run_fields f → is_some (option_map (as_run D) f) ≡ true →
+        Readable (run_numbers (run_or D (option_map (as_run D) f)))
+    go (Some f) e t =
+        let a = line_found s p run_fields (omega arith) run_word e in
+        subst Readable (first_of run_fields f.values a.many) a.readable
+    go None e t = not_both t refl
 
 -- ---- one number a square: 0 where it is closed, and one that can be read where it is not
 
@@ -181,7 +201,7 @@ module _ (s : List ℕ) (lent : Rooms) (h : Heading) (well : Well s lent h) wher
 
   numbers : (i : ℕ) → i < n → Readable ((line i).bed ∷ (line i).roughness ∷ (line i).depth ∷ (line i).rate ∷ [])
   numbers i l =
-      cell_small s (line_from s (cells_at s) i) (i / (shape_of s).columns) (i % (shape_of s).columns) (cell_found s lent h well i l)
+      small_of _ (cell_small s (line_from s (cells_at s) i) (i / (shape_of s).columns) (i % (shape_of s).columns)) (cell_found s lent h well i l)
 
   pub bed_column : Column marks n (said s).cells.beds
   unfolding cells_filled

@@ -1,5 +1,6 @@
 -- The set of what a sheet says reads as the same: no line of it is bad, its files agree, and it says what the sheet says.
 -- Assumes nothing.
+use Rattle.std.proofs.Common.{Option, Some, None, Result, is_none, unwrap_or}
 use mathlib.Core.Path.{◌≡◌, refl, sym, ap, ap₂, ◌∙◌}
 use mathlib.Core.Bool.{Bool, true, false, not}
 use mathlib.Core.List.{List, [], ◌∷◌}
@@ -15,10 +16,9 @@ use Rattle.grid.specs.Squares.{squares}
 use Rattle.grid.specs.Marks.{closed}
 use Rattle.grid.specs.declared.squares.Shape.{Shape}
 use Rattle.text.proofs.ReadingLaws.{by_test}
-use Rattle.raster.specs.Raster.{head_of, entry_of, grid_bad}
+use Rattle.raster.specs.Raster.{head_or, head_in, value_of, is_shut, entry_of, grid_bad}
 use Rattle.raster.specs.declared.amounts.Scale.{Scale}
 use Rattle.raster.specs.declared.amounts.Scale.TheVariants.{Metres, Whole}
-use Rattle.raster.specs.declared.reading.Entry.{Entry}
 use Rattle.raster.specs.declared.reading.Head.{Head}
 use Rattle.raster.proofs.GridLaws.{head_read, square_is, grid_read}
 use Rattle.sheet.specs.Sheet.{Rooms, rooms, line_one, line_two, shape_of, rain_table, inflow_table, said, heading_of, judged}
@@ -81,25 +81,33 @@ module _ (h : Heading) (held : Rooms) (say : Sayable h held) (t : Set) (note_is 
         grid_read k h.shape held.cells.marks col h.rules.square_side say.grid_small.1.0 say.grid_small.0
         say.grid_small.1.1.0 c.small
 
-    grid_head : ((head_of grid).shape ≡ h.shape) × ((head_of grid).side ≡ h.rules.square_side)
+    grid_head : ((head_in grid).shape ≡ h.shape) × ((head_in grid).side ≡ h.rules.square_side)
     grid_head =
         let e =
         head_read k h.shape held.cells.marks col h.rules.square_side say.grid_small.1.0 say.grid_small.0
         say.grid_small.1.1.0 c.small in
-        (ap (λ (g : Head). g.shape) e, ap (λ (g : Head). g.side) e)
+        (ap (λ (g : Result Head ℕ). (head_or g).shape) e, ap (λ (g : Result Head ℕ). (head_or g).side) e)
 
-    square_closed : (i : ℕ) → i < squares h.shape → (entry_of k grid i).closed ≡ closed held.cells.marks i
+    shut_choice : (b : Bool) (v : ℕ) → is_none (pick b None (Some v)) ≡ b
+    unfolding pick
+    shut_choice true v = refl
+    shut_choice false v = refl
+
+    square_closed : (i : ℕ) → i < squares h.shape → is_shut (entry_of k grid i) ≡ closed held.cells.marks i
     square_closed i l =
-        ap (λ (e : Entry). e.closed)
+        ap is_shut
         (square_is k h.shape held.cells.marks col h.rules.square_side say.grid_small.1.0 say.grid_small.0
         say.grid_small.1.1.0 c.small i l)
+        ∙ shut_choice (closed held.cells.marks i) (get_or col i 0)
 
-    square_value : (i : ℕ) → i < squares h.shape → (entry_of k grid i).value ≡ get_or col i 0
+    square_value : (i : ℕ) → i < squares h.shape → value_of (entry_of k grid i) ≡ get_or col i 0
     square_value i l =
-        ap (λ (e : Entry). e.value)
+        ap value_of
         (square_is k h.shape held.cells.marks col h.rules.square_side say.grid_small.1.0 say.grid_small.0
         say.grid_small.1.1.0 c.small i l)
-        ∙ by_test (closed held.cells.marks i) (λ e. pick_true _ _ e ∙ sym (c.none i l e)) (λ e. pick_false _ _ e)
+        ∙ by_test (closed held.cells.marks i)
+        (λ e. ap (λ (v : Option ℕ). unwrap_or v 0) (pick_true _ _ e) ∙ sym (c.none i l e))
+        (λ e. ap (λ (v : Option ℕ). unwrap_or v 0) (pick_false _ _ e))
 
     same_both : (b : Bool) → pick b b (not b) ≡ true
     unfolding pick
@@ -116,11 +124,11 @@ module _ (h : Heading) (held : Rooms) (say : Sayable h held) (t : Set) (note_is 
     unfolding agrees
     grid-agrees =
         each_every _ (
-          eq-eqb (head_of grid).shape.rows (shape_of t.note).rows (ap (λ (g : Shape). g.rows) (grid_head.0 ∙ sym note_shape)),
+          eq-eqb (head_in grid).shape.rows (shape_of t.note).rows (ap (λ (g : Shape). g.rows) (grid_head.0 ∙ sym note_shape)),
           (
-            eq-eqb (head_of grid).shape.columns (shape_of t.note).columns (ap (λ (g : Shape). g.columns) (grid_head.0 ∙ sym note_shape)),
+            eq-eqb (head_in grid).shape.columns (shape_of t.note).columns (ap (λ (g : Shape). g.columns) (grid_head.0 ∙ sym note_shape)),
             (
-              eq-eqb (head_of grid).side (line_one t.note).side (grid_head.1 ∙ sym note_side),
+              eq-eqb (head_in grid).side (line_one t.note).side (grid_head.1 ∙ sym note_side),
               (
                 ap (λ (g : Shape). all_below (squares g) (same_closed t k grid)) note_shape ∙ all_of (squares h.shape)
                     (same_closed t k grid) square_same,
@@ -133,8 +141,8 @@ module _ (h : Heading) (held : Rooms) (say : Sayable h held) (t : Set) (note_is 
     column_is : column t k grid ≡ col
     unfolding column
     column_is =
-        ap (λ (g : Shape). tabulate (squares g) (λ i. (entry_of k grid i).value)) note_shape
-        ∙ sym (is_tabulate (squares h.shape) (λ i. (entry_of k grid i).value) col c.long (λ i l. sym (square_value i l)))
+        ap (λ (g : Shape). tabulate (squares g) (λ i. value_of (entry_of k grid i))) note_shape
+        ∙ sym (is_tabulate (squares h.shape) (λ i. value_of (entry_of k grid i)) col c.long (λ i l. sym (square_value i l)))
 
 -- ---- the set of a sheet that is read well
 

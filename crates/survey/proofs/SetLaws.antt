@@ -1,5 +1,7 @@
 -- Laws of a set as it is read: the first file that cannot be read, closed squares compared one by one, and rooms filled square by square.
 -- Assumes nothing.
+use Rattle.sheet.proofs.KindLaws.{run_side}
+use Rattle.std.proofs.Common.{Option}
 use mathlib.Core.Path.{◌≡◌, refl, sym, ap, ap₂, subst, ◌∙◌}
 use mathlib.Core.Bool.{Bool, true, false}
 use mathlib.Core.List.{List, [], ◌∷◌}
@@ -13,18 +15,17 @@ use borrow.Author.Tests.{eq-eqb, ne_eqb}
 use Rattle.reckon.specs.Tests.{all_below}
 use Rattle.reckon.specs.Lists.{filled}
 use Rattle.reckon.proofs.TestLaws.{every_fails, all_of, all_fails}
-use Rattle.reckon.proofs.ListLaws.{length-filled, filled_none, filled_store}
+use Rattle.reckon.proofs.ListLaws.{filled_none, filled_store}
 use Rattle.grid.specs.Squares.{squares}
 use Rattle.grid.specs.declared.squares.Shape.{Shape}
 use Rattle.text.specs.Reading.{most_number, next_line, line_from}
 use Rattle.text.proofs.EndLaws.{next-within, start-within}
 use Rattle.text.proofs.LineLaws.{line_next}
 use Rattle.checks.proofs.CheckLaws.{every_decided}
-use Rattle.raster.specs.Raster.{last_in_row, entry_at, place_from, entry_from, head_of}
+use Rattle.raster.specs.Raster.{next_of, head_in, is_shut, last_in_row, entry_at, place_from, entry_from}
 use Rattle.raster.specs.declared.amounts.Scale.{Scale}
 use Rattle.raster.specs.declared.reading.Entry.{Entry}
 use Rattle.raster.specs.declared.reading.Head.{Head}
-use Rattle.sheet.specs.Lines.{run_line, as_run}
 use Rattle.sheet.specs.Sheet.{line_one, shape_of, heading_of}
 use Rattle.sheet.specs.declared.reading.Heading.{Heading}
 use Rattle.survey.specs.Sets.{Set, note_mark, first_of, same_closed, agrees}
@@ -77,19 +78,19 @@ module _ (k : Scale) (grid : List ℕ) (p columns : ℕ) where
   unfolding place_from
   place_first = refl
 
-  module _ (i : ℕ) {next : ℕ} (a : next ≡ place_from k grid p columns i) {e : Entry} (r : e ≡ entry_at k grid next (last_in_row columns i)) where
+  module _ (i : ℕ) {next : ℕ} (a : next ≡ place_from k grid p columns i) {e : Option Entry} (r : e ≡ entry_at k grid next (last_in_row columns i)) where
     pub entry_is : e ≡ entry_from k grid p columns i
     entry_is = r ∙ ap (λ (x : ℕ). entry_at k grid x (last_in_row columns i)) a
 
-    pub place_more : e.next ≡ place_from k grid p columns (i + 1)
+    pub place_more : next_of next e ≡ place_from k grid p columns (i + 1)
     unfolding place_from
-    place_more = ap (λ (x : Entry). x.next) entry_is ∙ sym (ap (place_from k grid p columns) (add-one i))
+    place_more = ap₂ next_of a entry_is ∙ sym (ap (place_from k grid p columns) (add-one i))
 
 -- ---- closed squares
 
 module _ (note : List ℕ) (q : ℕ) (k : Scale) (grid : List ℕ) (p columns : ℕ) where
   abbrev pub same : ℕ → Bool
-  same i = closed_same (entry_from k grid p columns i).closed (mark_from note q columns i)
+  same i = closed_same (is_shut (entry_from k grid p columns i)) (mark_from note q columns i)
 
   -- those of the first i squares agree
   pub record Agreeing (line next i : ℕ) : Type 0 where
@@ -101,14 +102,14 @@ module _ (note : List ℕ) (q : ℕ) (k : Scale) (grid : List ℕ) (p columns : 
   agreeing_none h =
       record { lines = line_first note q h; place = place_first k grid p columns; so_far = λ j l. absurd (not-suc-le-zero l) }
 
-  module _ {line next i mark : ℕ} {e : Entry} {r : Bool} (a : Agreeing line next i) (f : e ≡ entry_at k grid next (last_in_row columns i))
-      (m : mark ≡ mark_at note line columns i) (t : r ≡ closed_same e.closed mark) where
+  module _ {line next i mark : ℕ} {e : Option Entry} {r : Bool} (a : Agreeing line next i) (f : e ≡ entry_at k grid next (last_in_row columns i))
+      (m : mark ≡ mark_at note line columns i) (t : r ≡ closed_same (is_shut e) mark) where
     pub same_here : r ≡ same i
     same_here =
         t
-        ∙ ap₂ closed_same (ap (λ (x : Entry). x.closed) (entry_is k grid p columns i a.place f)) (line_mark note q a.lines columns m)
+        ∙ ap₂ closed_same (ap is_shut (entry_is k grid p columns i a.place f)) (line_mark note q a.lines columns m)
 
-    pub agreeing_more : r ≡ true → {after : ℕ} → after ≡ next_line note line → Agreeing after e.next (i + 1)
+    pub agreeing_more : r ≡ true → {after : ℕ} → after ≡ next_line note line → Agreeing after (next_of next e) (i + 1)
     agreeing_more h l =
         record {
           lines = line_more note q a.lines l;
@@ -134,8 +135,8 @@ module _ {note : List ℕ} {read : Note} (n : NoteIs note read) where
   shape_is = ap (λ (h : Heading). h.shape) n.heading_is
 
   pub side_is : read.heading.rules.square_side ≡ (line_one note).side
-  unfolding heading_of run_line as_run
-  side_is = ap (λ (h : Heading). h.rules.square_side) n.heading_is
+  unfolding heading_of
+  side_is = ap (λ (h : Heading). h.rules.square_side) n.heading_is ∙ run_side note (line_from note 0 1) (line_one note).side
 
   pub cells_inside : read.cells_at ≤ length note
   cells_inside = subst (λ (p : ℕ). p ≤ length note) (sym n.cells_at_is) (start-within note 2)
@@ -145,7 +146,7 @@ module _ {note : List ℕ} {read : Note} (n : NoteIs note read) where
       let small = first_small note n.one_found in
       subst (λ (s : Shape). (s.rows ≤ most_number) × (s.columns ≤ most_number)) (sym shape_is) (small.0, small.1.0)
 
-  module _ (k : Scale) (grid : List ℕ) {head : Head} (e : head ≡ head_of grid) where
+  module _ (k : Scale) (grid : List ℕ) {head : Head} (e : head ≡ head_in grid) where
     pub rows_differ : (head.shape.rows ≡ read.heading.shape.rows → ⊥) → false ≡ agrees (noted note) k grid
     unfolding agrees
     rows_differ d =
@@ -162,13 +163,13 @@ module _ {note : List ℕ} {read : Note} (n : NoteIs note read) where
 
     module _ (rows : head.shape.rows ≡ read.heading.shape.rows) (columns : head.shape.columns ≡ read.heading.shape.columns)
         (side : head.side ≡ read.heading.rules.square_side) where
-      rows_are : (head_of grid).shape.rows ≡ (shape_of note).rows
+      rows_are : (head_in grid).shape.rows ≡ (shape_of note).rows
       rows_are = sym (ap (λ (h : Head). h.shape.rows) e) ∙ (rows ∙ ap (λ (s : Shape). s.rows) shape_is)
 
-      columns_are : (head_of grid).shape.columns ≡ (shape_of note).columns
+      columns_are : (head_in grid).shape.columns ≡ (shape_of note).columns
       columns_are = sym (ap (λ (h : Head). h.shape.columns) e) ∙ (columns ∙ ap (λ (s : Shape). s.columns) shape_is)
 
-      side_same : (head_of grid).side ≡ (line_one note).side
+      side_same : (head_in grid).side ≡ (line_one note).side
       side_same = sym (ap (λ (h : Head). h.side) e) ∙ (side ∙ side_is)
 
       closed_is :
@@ -179,7 +180,7 @@ module _ {note : List ℕ} {read : Note} (n : NoteIs note read) where
           (λ j. closed_agree note (n.cells_at_is j) k grid (e j).next (shape_is j))
           ∙ (λ j.
           all_below (squares (shape_of note))
-          (λ i. closed_same (entry_from k grid (head_of grid).next (sym columns_are j) i).closed (note_mark note i)))
+          (λ i. closed_same (is_shut (entry_from k grid (head_in grid).next (sym columns_are j) i)) (note_mark note i)))
 
       pub agrees_by : {r : Bool} → r ≡ closed_agree note read.cells_at k grid head.next read.heading.shape → r ≡ agrees (noted note) k grid
       unfolding agrees
@@ -203,9 +204,6 @@ module _ (f : ℕ → ℕ) (old : List ℕ) where
   filling_none = record { same_as = filled_none (λ j. false) f old }
 
   module _ {i : ℕ} {new : List ℕ} (a : Filling f old i new) where
-    pub filling_long : length new ≡ length old
-    filling_long = ap length a.same_as ∙ length-filled i (λ j. false) f old
-
     pub filling_more : i < length old → {v : ℕ} → v ≡ f i → Filling f old (i + 1) (set new i v)
     filling_more h {v} e = record { same_as = ap (λ (l : List ℕ). set l i v) a.same_as ∙ filled_store (λ j. false) f old i h refl e }
 

@@ -1,6 +1,7 @@
 -- A sheet that is written of what can be said reads as it: each square's line, every line in its place, and what it says. So does the sheet
 -- that a set is moved back to.
 -- Assumes nothing.
+use Rattle.std.proofs.Common.{Option, Some, None, is_some, option_map}
 use mathlib.Core.Path.{◌≡◌, refl, sym, ap, ap₂, subst, ◌∙◌}
 use mathlib.Core.Bool.{Bool, true, false}
 use mathlib.Core.List.{List, [], ◌∷◌, ◌++◌, append_assoc}
@@ -27,16 +28,14 @@ use Rattle.text.proofs.ReadingLaws.{by_test, byte_here}
 use Rattle.text.proofs.StandLaws.{stands_first, stands_second, byte_stands, stands_within, word_stands}
 use Rattle.text.proofs.LineLaws.{plain_both, plain_fields}
 use Rattle.text.proofs.RoundTrip.{tab-alone, fields_back, rest_back}
-use Rattle.sheet.specs.Lines.{cell_word, x_letter, o_letter, e_letter, place_fields, no_cell, closed_cell, as_open, open_cell, marked_cell, placed_cell, cell_line, letter_of, line_head}
-use Rattle.sheet.specs.Sheet.{Rooms, rooms, cell_from, closed_from, cells_read, shape_of, cells_at, after_all, bad_line, no_cells, cells_filled, rooms_fine, checks_in, checks_of, said}
+use Rattle.sheet.specs.Lines.{cell_word, x_letter, o_letter, e_letter, place_fields, closed_cell, as_open, open_cell, marked_cell, placed_cell, cell_line, letter_of, line_head}
+use Rattle.sheet.specs.Sheet.{cell_or, has_cell, Rooms, rooms, cell_from, closed_from, cells_read, shape_of, cells_at, after_all, bad_line, no_cells, cells_filled, rooms_fine, checks_in, checks_of, said}
 use Rattle.sheet.specs.Written.{ground_at, cell_written, lines_written}
 use Rattle.sheet.specs.declared.lines.CellLine.{CellLine}
-use Rattle.sheet.specs.declared.lines.GridLine.{GridLine}
-use Rattle.sheet.specs.declared.lines.RunLine.{RunLine}
 use Rattle.sheet.specs.declared.reading.Heading.{Heading}
 use Rattle.sheet.proofs.SheetLaws.{Well}
 use Rattle.survey.specs.Inner.Writing.{Writable}
-use Rattle.survey.proofs.LinesBack.{Line, readable_at, one_back, two_back, shape_back, side_back, cell_at, rain_table_back, inflow_table_back, after-back, heading_back}
+use Rattle.survey.proofs.LinesBack.{Line, readable_at, one_there, two_back, two_there, shape_back, side_back, cell_at, rain_table_back, inflow_table_back, after-back, heading_back}
 use Rattle.survey.proofs.NoteBack.{plain_head}
 use Rattle.survey.proofs.SayableLaws.{Column}
 
@@ -44,7 +43,7 @@ use Rattle.survey.proofs.SayableLaws.{Column}
 
 -- what a line with these numbers after its mark says
 abbrev open_as : ℕ → ℕ → ℕ → ℕ → ℕ → ℕ → CellLine
-open_as mark bed k d rate q = record { found = true; mark = mark; bed = bed; roughness = k; depth = d; rate = rate; next = q }
+open_as mark bed k d rate q = record { mark = mark; bed = bed; roughness = k; depth = d; rate = rate; next = q }
 
 module _ {s : List ℕ} {p q : ℕ} (row column mark : ℕ) (vs : List ℕ) (small : Readable (row ∷ column ∷ [])) (ground : Readable vs)
     (a : StandsAt s p (line_head row column mark ++ rest_text vs) q) where
@@ -83,7 +82,7 @@ module _ {s : List ℕ} {p q : ℕ} (row column mark : ℕ) (vs : List ℕ) (sma
   unfolding cell_line placed_cell as_fields padded pick tabulate
   placed =
       pick_true _ _ (word_stands inside word)
-      ∙ (ap (λ (f : Fields). placed_cell s row column f) (ap (as_fields (p + length cell_word)) here)
+      ∙ (ap (λ (f : Option Fields). placed_cell s row column f) (ap as_fields here)
       ∙ (pick_true _ _ (eq-eqb row row refl) ∙ pick_true _ _ (eq-eqb column column refl)))
 
   after_mark : p + length (line_head row column mark) ≡ r + 2
@@ -102,14 +101,14 @@ module _ {s : List ℕ} {p q : ℕ} (row column mark : ℕ) (vs : List ℕ) (sma
 
 -- a closed square's line, and that of another
 closed_back : {s : List ℕ} {p q : ℕ} (row column : ℕ) → Readable (row ∷ column ∷ []) → StandsAt s p (line_head row column 0 ++ rest_text []) q →
-    cell_line s p row column ≡ open_as 0 0 0 0 0 q
+    cell_line s p row column ≡ Some (open_as 0 0 0 0 0 q)
 unfolding marked_cell closed_cell rest_text fields_text letter_of
 closed_back {s} {p} {q} row column small a =
     let end = ground_here row column 0 [] small tt a in
     placed row column 0 [] small tt a
     ∙ (pick_true _ _ (tab_here row column 0 [] small tt a)
     ∙ (pick_true _ _ (byte_is row column 0 [] small tt a x_letter)
-    ∙ (pick_true _ _ (byte_stands end).1 ∙ ap (open_as 0 0 0 0 0) (sym end.after))))
+    ∙ (pick_true _ _ (byte_stands end).1 ∙ ap (λ (k : ℕ). Some (open_as 0 0 0 0 0 k)) (sym end.after))))
 
 module _ {s : List ℕ} {p q : ℕ} (row column mark bed k d rate : ℕ) (small : Readable (row ∷ column ∷ []))
     (ground : Readable (bed ∷ k ∷ d ∷ rate ∷ [])) (a : StandsAt s p (line_head row column mark ++ rest_text (bed ∷ k ∷ d ∷ rate ∷ [])) q) where
@@ -119,12 +118,12 @@ module _ {s : List ℕ} {p q : ℕ} (row column mark bed k d rate : ℕ) (small 
   abbrev at : ℕ
   at = r row column mark numbers small ground a
 
-  opened : open_cell s (r row column mark numbers small ground a + 2) mark ≡ open_as mark bed k d rate q
+  opened : open_cell s (r row column mark numbers small ground a + 2) mark ≡ Some (open_as mark bed k d rate q)
   unfolding open_cell as_open as_fields padded tabulate
   opened =
-      ap (λ (x : Fields). as_open mark x) (ap (as_fields (r row column mark numbers small ground a + 2)) (rest_back numbers (ground_here row column mark numbers small ground a) ground))
+      ap (λ (x : Option Fields). option_map (as_open mark) x) (ap as_fields (rest_back numbers (ground_here row column mark numbers small ground a) ground))
 
-  open_back : 0 < mark → mark < 3 → cell_line s p row column ≡ open_as mark bed k d rate q
+  open_back : 0 < mark → mark < 3 → cell_line s p row column ≡ Some (open_as mark bed k d rate q)
   unfolding marked_cell letter_of
   open_back low high =
       placed row column mark numbers small ground a
@@ -136,8 +135,8 @@ module _ {s : List ℕ} {p q : ℕ} (row column mark bed k d rate : ℕ) (small 
       by_letter :
           (m : ℕ) → 0 < m → m < 3 → mark ≡ m →
           pick (is_byte s (at + 1) x_letter) (closed_cell s (at + 2))
-          (pick (is_byte s (at + 1) o_letter) (open_cell s (at + 2) 1) (pick (is_byte s (at + 1) e_letter) (open_cell s (at + 2) 2) no_cell))
-          ≡ open_as mark bed k d rate q
+          (pick (is_byte s (at + 1) o_letter) (open_cell s (at + 2) 1) (pick (is_byte s (at + 1) e_letter) (open_cell s (at + 2) 2) None))
+          ≡ Some (open_as mark bed k d rate q)
       by_letter zero l h e = absurd (omega (arith, l))
       by_letter (suc zero) l h e =
           pick_false _ _ (is x_letter 1 e) ∙ (pick_true _ _ (is o_letter 1 e) ∙ (ap (open_cell s (at + 2)) (sym e) ∙ opened))
@@ -196,6 +195,9 @@ module _ (h : Heading) (held : Rooms) (w : Writable h held) where
   abbrev read_at : ℕ → CellLine
   read_at i = cell_from lines (cells_at lines) h.shape.columns i
 
+  abbrev cell_at_place : ℕ → Option CellLine
+  cell_at_place i = cell_line lines (line_from lines (cells_at lines) i) (i / h.shape.columns) (i % h.shape.columns)
+
   module _ (i : ℕ) (l : i < squares h.shape) where
     abbrev from : ℕ
     from = line_from lines (cells_at lines) i
@@ -206,9 +208,9 @@ module _ (h : Heading) (held : Rooms) (w : Writable h held) where
     stands : StandsAt lines from (cell i) after
     stands = cell_at h held w.say cell cell_lined i l
 
-    closed_read : closed held.cells.marks i ≡ true → read_at i ≡ open_as 0 0 0 0 0 after
+    closed_there : closed held.cells.marks i ≡ true → cell_at_place i ≡ Some (open_as 0 0 0 0 0 after)
     unfolding closed cell_written ground_at
-    closed_read e =
+    closed_there e =
         let zero-mark : mark i ≡ 0 = eqb-true (mark i) 0 e in
         let none : ground_at held i ≡ [] = ground_none e in
         closed_back (i / h.shape.columns) (i % h.shape.columns) (place_small i l)
@@ -222,13 +224,13 @@ module _ (h : Heading) (held : Rooms) (w : Writable h held) where
             cell i ≡ line_head (i / h.shape.columns) (i % h.shape.columns) 0 ++ rest_text []
         written_as e f = ap₂ (λ (m : ℕ) (vs : List ℕ). line_head (i / h.shape.columns) (i % h.shape.columns) m ++ rest_text vs) e f
 
-    open_read :
+    open_there :
         closed held.cells.marks i ≡ false →
-        read_at i
-        ≡ open_as (mark i) (get_or held.cells.beds i 0) (get_or held.cells.roughness i 0) (get_or held.cells.depths i 0)
-        (get_or held.cells.rates i 0) after
+        cell_at_place i
+        ≡ Some (open_as (mark i) (get_or held.cells.beds i 0) (get_or held.cells.roughness i 0) (get_or held.cells.depths i 0)
+        (get_or held.cells.rates i 0) after)
     unfolding closed cell_written ground_at
-    open_read e =
+    open_there e =
         open_back (i / h.shape.columns) (i % h.shape.columns) (mark i) (get_or held.cells.beds i 0) (get_or held.cells.roughness i 0)
         (get_or held.cells.depths i 0) (get_or held.cells.rates i 0) (place_small i l) (numbers_small i)
         (subst (λ (t : List ℕ). StandsAt lines from t after)
@@ -236,10 +238,20 @@ module _ (h : Heading) (held : Rooms) (w : Writable h held) where
         stands)
         (omega (arith, eqb-false (mark i) 0 e)) (w.say.marks_low i l)
 
-    found_read : (read_at i).found ≡ true
+    closed_read : closed held.cells.marks i ≡ true → read_at i ≡ open_as 0 0 0 0 0 after
+    closed_read e = ap cell_or (closed_there e)
+
+    open_read :
+        closed held.cells.marks i ≡ false →
+        read_at i
+        ≡ open_as (mark i) (get_or held.cells.beds i 0) (get_or held.cells.roughness i 0) (get_or held.cells.depths i 0)
+        (get_or held.cells.rates i 0) after
+    open_read e = ap cell_or (open_there e)
+
+    found_read : has_cell lines (cells_at lines) h.shape.columns i ≡ true
     found_read =
-        by_test (closed held.cells.marks i) (λ e. ap (λ (c : CellLine). c.found) (closed_read e))
-        (λ e. ap (λ (c : CellLine). c.found) (open_read e))
+        by_test (closed held.cells.marks i) (λ e. ap is_some (closed_there e))
+        (λ e. ap is_some (open_there e))
 
     mark_read : (read_at i).mark ≡ mark i
     unfolding closed
@@ -317,13 +329,13 @@ module _ (h : Heading) (held : Rooms) (w : Writable h held) where
     unfolding cells_read
     cells_all =
         ap (λ (g : Shape). cells_read lines (cells_at lines) g) shaped
-        ∙ (failing_none n (λ i. (read_at i).found) found_read ∙ ap squares (sym shaped))
+        ∙ (failing_none n (has_cell lines (cells_at lines) h.shape.columns) found_read ∙ ap squares (sym shaped))
 
     nothing_bad : bad_line lines ≡ 0
     unfolding bad_line
     nothing_bad =
         passed_refusal _ (
-          ap (λ (g : RunLine). g.found) (two_back h held w.say cell cell_lined),
+          ap is_some (two_there h held w.say cell cell_lined),
           (
             le-leb (squares (shape_of lines)) (cells_read lines (cells_at lines) (shape_of lines)) (omega (arith, cells_all)),
             (le-leb (length lines) (after_all lines) (omega (arith, after-back h held w.say cell cell_lined)), tt),
@@ -337,7 +349,7 @@ module _ (h : Heading) (held : Rooms) (w : Writable h held) where
     pub well_back : (lent : Rooms) → rooms_fine h.shape h.rules.square_side lent ≡ true → checks_in h.shape h.rules held h.end ≡ 0 → Well lines lent h
     well_back lent fine checks =
         record {
-          first_line = ap (λ (g : GridLine). g.found) (one_back h held w.say cell cell_lined);
+          first_line = ap is_some (one_there h held w.say cell cell_lined);
           fine = ap₂ (λ (x : Shape) (D : ℕ). rooms_fine x D lent) shaped (side_back h held w.say cell cell_lined) ∙ fine;
           text_good = nothing_bad;
           checks = checks_are ∙ checks;

@@ -6,11 +6,11 @@ use Rattle.reckon.specs.Lists.{tabulate}
 use Rattle.grid.specs.Squares.{most_squares, squares}
 use Rattle.text.specs.Reading.{word_at, line_from}
 use Rattle.text.specs.Writing.{rest_text}
-use Rattle.raster.specs.Raster.{grid_text, head_of, entry_of, grid_bad}
+use Rattle.raster.specs.Raster.{grid_text, head_in, value_of, is_shut, entry_of, grid_bad}
 use Rattle.raster.specs.declared.amounts.Scale.{Scale}
 use Rattle.raster.specs.declared.amounts.Scale.TheVariants.{Metres, Whole}
 use Rattle.sheet.specs.Lines.{line_head}
-use Rattle.sheet.specs.Sheet.{Rooms, rooms, line_one, line_two, shape_of, cells_at, rain_rows, rain_table, inflow_rows, inflow_table, after_all, first_cell, checks_in, said, heading_of, judged}
+use Rattle.sheet.specs.Sheet.{Rooms, rooms, has_one, has_two, line_one, line_two, shape_of, cells_at, rain_rows, rain_table, inflow_rows, inflow_table, after_all, first_cell, checks_in, said, heading_of, judged}
 use Rattle.sheet.specs.Written.{lines_written, sheet_written}
 use Rattle.sheet.specs.declared.reading.Heading.{Heading}
 use Rattle.sheet.specs.declared.reading.Sheet.{Sheet}
@@ -69,8 +69,8 @@ module _ (s : List ℕ) where
   unfoldable pub note_bad : ℕ
   note_bad =
       refusal
-      (1 unless (line_one s).found
-      ∷ 2 unless (line_two s).found
+      (1 unless has_one s
+      ∷ 2 unless has_two s
       ∷ (marks_read + first_cell) unless leb (squares (shape_of s)) marks_read
       ∷ (squares (shape_of s) + rain_rows s + inflow_rows s + first_cell) unless leb (length s) (after_all s)
       ∷ [])
@@ -97,15 +97,15 @@ module _ (t : Set) where
 
   -- a square is closed in a grid exactly where it is closed in the note
   unfoldable pub same_closed : Scale → List ℕ → ℕ → Bool
-  same_closed k grid i = pick (entry_of k grid i).closed (eqb (note_mark t.note i) 0) (not (eqb (note_mark t.note i) 0))
+  same_closed k grid i = pick (is_shut (entry_of k grid i)) (eqb (note_mark t.note i) 0) (not (eqb (note_mark t.note i) 0))
 
   -- a grid and the note agree "in shape, cellsize [and] closed squares, the note's marks among them"
   unfoldable pub agrees : Scale → List ℕ → Bool
   agrees k grid =
       every
-      (eqb (head_of grid).shape.rows (shape_of t.note).rows
-      ∷ eqb (head_of grid).shape.columns (shape_of t.note).columns
-      ∷ eqb (head_of grid).side (line_one t.note).side
+      (eqb (head_in grid).shape.rows (shape_of t.note).rows
+      ∷ eqb (head_in grid).shape.columns (shape_of t.note).columns
+      ∷ eqb (head_in grid).side (line_one t.note).side
       ∷ all_below (squares (shape_of t.note)) (same_closed k grid)
       ∷ [])
 
@@ -114,7 +114,7 @@ module _ (t : Set) where
 
   -- the numbers of a grid, 0 at closed squares
   unfoldable pub column : Scale → List ℕ → List ℕ
-  column k grid = tabulate (squares (shape_of t.note)) (λ i. (entry_of k grid i).value)
+  column k grid = tabulate (squares (shape_of t.note)) (λ i. value_of (entry_of k grid i))
 
   -- what the set says, as rooms hold it
   unfoldable pub set_says : Rooms

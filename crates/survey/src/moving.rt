@@ -100,6 +100,7 @@ fn put_read(
 }
 
 // A part of a sheet's set at the start of a room, or a refusal that leaves the room as it was.
+// No `Printer`: it runs nothing, its rooms hold the most squares of all, and a refusal is not printed.
 pub fn to_part(text: &[u8], part: Part, out: &mut [u8; MOST_FILE]) -> Moved
     ensures { MovesPart text.now part out.old result out.new }
 {

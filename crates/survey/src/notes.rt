@@ -58,8 +58,7 @@ fn count_marks(text: &[u8], at: usize, shape: Shape) -> Scan
     let columns = shape.columns;
     let squares = shape.rows * columns;
     let mut next = at;
-    let mut square: usize = 0;
-    while square < squares {
+    for square in 0..squares {
         if mark_at(text, next, columns, square) == NO_MARK {
             return Scan {
                 count: square,
@@ -67,10 +66,9 @@ fn count_marks(text: &[u8], at: usize, shape: Shape) -> Scan
             };
         }
         next = next_line(text, next);
-        square += 1;
     }
     Scan {
-        count: square,
+        count: squares,
         next: next,
     }
 }
@@ -119,14 +117,12 @@ fn bad_note(line: usize) -> Note
 pub(crate) fn read_note(text: &[u8]) -> Note
     ensures { NoteRead text.now result }
 {
-    let top = grid_line(text);
-    if !top.found {
+    let Some(top) = grid_line(text) else {
         return bad_note(1);
-    }
-    let run = run_line(text, top.next, top.side);
-    if !run.found {
+    };
+    let Some(run) = run_line(text, top.next, top.side) else {
         return bad_note(2);
-    }
+    };
     let shape = top.shape;
     let squares = shape.rows * shape.columns;
     let cells = count_marks(text, run.next, shape);

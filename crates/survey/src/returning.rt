@@ -62,7 +62,7 @@ fn put_judged(
     ))
 }
 
-// The same of the parts of rooms that belong to a heading.
+// The same of the parts of rooms that belong to a heading. `put_read` cuts them so too: eight slices handed through a closure are no plainer.
 fn put_lying(
     out: &mut [u8],
     heading: Heading,

@@ -1,18 +1,18 @@
 // A set as it is read: its text judged, its grids compared with its note, and what they say put into rooms.
-ghost use Rattle.std.specs.Prelude.{◌≡◌, false, [], ◌∷◌, ◌≤◌, min, length};
+ghost use Rattle.std.specs.Prelude.{◌≡◌, false, [], ◌∷◌, ◌≤◌, length};
 ghost use Rattle.reckon.specs.Lists.{filled};
 ghost use Rattle.grid.specs.Squares.{ShapeInRange, squares};
 ghost use Rattle.text.specs.Reading.{most_number};
-ghost use Rattle.raster.specs.Raster.{entry_from, grid_bad, head_of};
+ghost use Rattle.raster.specs.Raster.{entry_from, grid_bad, head_in, head_or, is_shut, next_of, value_of};
 ghost use Rattle.raster.specs.declared.amounts.Scale.TheVariants.{Metres, Whole};
 ghost use Rattle.survey.specs.Sets.{agrees, all_agree, all_short, first_of, five_files};
-ghost use Rattle.survey.specs.Inner.Notes.{NoteIs, closed_agree, closed_same, looked_heading, looked_rows, mark_from, noted};
+ghost use Rattle.survey.specs.Inner.Notes.{NoteIs, closed_agree, closed_same, looked_heading, mark_from, noted};
 
 use crate::moving::MOST_FILE;
 use crate::notes::{Note, mark_at};
 use grid::squares::{Shape, squares_of};
 use raster::amounts::Scale;
-use raster::reading::{entry_at, grid_bad, head_of};
+use raster::reading::{Entry, Head, entry_at, grid_bad, head_of};
 use reckon::ranges::MOST_TABLE_ROWS;
 use sheet::reading::Heading;
 use text::lines::next_line;
@@ -67,6 +67,53 @@ pub(crate) fn set_bad(note: usize, bed: &[u8], depth: &[u8], roughness: &[u8], r
     grid_bad(rate, Scale::Whole)
 }
 
+// A header that was read, or one of no squares, from where the reading stopped.
+fn head_or(head: Result<Head, usize>) -> Head
+    ensures { result ≡ head_or head }
+{
+    match head {
+        Ok(head) => head,
+        Err(at) => Head {
+            shape: Shape {
+                rows: 0,
+                columns: 0,
+            },
+            side: 0,
+            next: at,
+        },
+    }
+}
+
+// A square that was read is closed.
+fn is_shut(entry: Option<Entry>) -> bool
+    ensures { result ≡ is_shut entry }
+{
+    match entry {
+        Some(entry) => entry.value.is_none(),
+        None => false,
+    }
+}
+
+// A square's number, 0 where it is closed.
+fn value_of(entry: Option<Entry>) -> u32
+    ensures { result ≡ value_of entry }
+{
+    match entry {
+        Some(entry) => entry.value.unwrap_or(0),
+        None => 0,
+    }
+}
+
+// Where the square after the one at a position starts.
+fn next_of(at: usize, entry: Option<Entry>) -> usize
+    ensures { result ≡ next_of at entry }
+{
+    match entry {
+        Some(entry) => entry.next,
+        None => at,
+    }
+}
+
 // A square is closed in a grid as it is in the note.
 fn closed_same(closed: bool, mark: u8) -> bool
     ensures { result ≡ closed_same closed mark }
@@ -93,15 +140,13 @@ fn closed_agree(
     let squares = shape.rows * columns;
     let mut line = cells_at;
     let mut next = at;
-    let mut square: usize = 0;
-    while square < squares {
+    for square in 0..squares {
         let entry = entry_at(grid, next, scale, (square + 1) % columns == 0);
-        if !closed_same(entry.closed, mark_at(note, line, columns, square)) {
+        if !closed_same(is_shut(entry), mark_at(note, line, columns, square)) {
             return false;
         }
         line = next_line(note, line);
-        next = entry.next;
-        square += 1;
+        next = next_of(next, entry);
     }
     true
 }
@@ -111,7 +156,7 @@ fn grid_agrees(note: &[u8], read: Note, grid: &[u8], scale: Scale) -> bool
     requires { NoteIs note.now read }
     ensures { result ≡ agrees (noted note.now) scale grid.now }
 {
-    let head = head_of(grid);
+    let head = head_or(head_of(grid));
     let found = head.shape;
     let heading = read.heading;
     let shape = heading.shape;
@@ -160,53 +205,35 @@ pub(crate) fn fill_marks(note: &[u8], at: usize, shape: Shape, marks: &mut [u8])
     let columns = shape.columns;
     let squares = squares_of(shape);
     let mut line = at;
-    let mut square: usize = 0;
-    while square < squares {
+    for square in 0..squares {
         marks[square] = mark_at(note, line, columns, square);
         line = next_line(note, line);
-        square += 1;
     }
 }
 
 // The numbers of a grid into a room, 0 at closed squares.
 pub(crate) fn fill_column(grid: &[u8], scale: Scale, shape: Shape, room: &mut [u32])
     requires { (ShapeInRange shape) × (squares shape ≤ length room.old) }
-    ensures { room.new ≡ filled (squares shape) (λ i. false) (λ i. (entry_from scale grid.now (head_of grid.now).next shape.columns i).value) room.old }
+    ensures { room.new ≡ filled (squares shape) (λ i. false) (λ i. value_of (entry_from scale grid.now (head_in grid.now).next shape.columns i)) room.old }
 {
     let columns = shape.columns;
     let squares = squares_of(shape);
-    let head = head_of(grid);
+    let head = head_or(head_of(grid));
     let mut next = head.next;
-    let mut square: usize = 0;
-    while square < squares {
+    for square in 0..squares {
         let entry = entry_at(grid, next, scale, (square + 1) % columns == 0);
-        room[square] = entry.value;
-        next = entry.next;
-        square += 1;
+        room[square] = value_of(entry);
+        next = next_of(next, entry);
     }
-}
-
-// The rows of a table that are looked at.
-fn looked_at(rows: usize) -> usize
-    ensures { result ≡ min rows looked_rows }
-{
-    if MOST_TABLE_ROWS < rows {
-        return LOOKED_ROWS;
-    }
-    rows
 }
 
 // A heading with as many rows as are looked at.
 pub(crate) fn looked_heading(heading: Heading) -> Heading
     ensures { result ≡ looked_heading heading }
 {
-    let shape = heading.shape;
-    let rules = heading.rules;
     Heading {
-        shape: shape,
-        rules: rules,
-        end: heading.end,
-        rain_rows: looked_at(heading.rain_rows),
-        inflow_rows: looked_at(heading.inflow_rows),
+        rain_rows: heading.rain_rows.min(LOOKED_ROWS),
+        inflow_rows: heading.inflow_rows.min(LOOKED_ROWS),
+        ..heading
     }
 }

@@ -65,13 +65,9 @@ fn put_marks(out: &mut [u8], at: usize, shape: Shape, marks: &[u8]) -> usize
     requires i_in_bounds { at + length (joined (squares shape) (λ i. mark_line shape.columns i (get_or marks.now i 0))) ≤ length out.old }
     ensures { Wrote (joined (squares shape) (λ i. mark_line shape.columns i (get_or marks.now i 0))) at out.old out.new result }
 {
-    let squares = squares_of(shape);
-    let columns = shape.columns;
     let mut next = at;
-    let mut square: usize = 0;
-    while square < squares {
-        next = put_mark_line(out, next, columns, square, marks[square]);
-        square += 1;
+    for (square, mark) in marks.iter().enumerate() {
+        next = put_mark_line(out, next, shape.columns, square, *mark);
     }
     next
 }
@@ -141,12 +137,10 @@ fn put_cells(
     let squares = squares_of(shape);
     let columns = shape.columns;
     let mut next = at;
-    let mut square: usize = 0;
-    while square < squares {
+    for square in 0..squares {
         next = put_cell(
             out, next, columns, square, marks, beds, roughness, rates, depths,
         );
-        square += 1;
     }
     next
 }
@@ -158,10 +152,8 @@ fn put_numbers(out: &mut [u8], at: usize, table: &[u32], first: usize, width: us
     ensures { Wrote (fields_text (tabulate width (λ k. get_or table.now (first + k) 0))) at out.old out.new result }
 {
     let mut next = at;
-    let mut i: usize = 0;
-    while i < width {
-        next = put_field(out, next, number(table, first + i));
-        i += 1;
+    for value in &table[first..first + width] {
+        next = put_field(out, next, *value as u64);
     }
     next
 }
@@ -191,10 +183,8 @@ fn put_table(
     ensures { Wrote (joined rows (row_written word.now width table.now)) at out.old out.new result }
 {
     let mut next = at;
-    let mut row: usize = 0;
-    while row < rows {
+    for row in 0..rows {
         next = put_row(out, next, word, width, table, row);
-        row += 1;
     }
     next
 }

@@ -8,6 +8,7 @@ use native.Mathlib.Nat.{sub-zero, add-zero}
 use native.Mathlib.Numerals.{add-one}
 use native.Mathlib.Decide.{ℕ_discrete}
 use native.Mathlib.Omega.{arith}
+use Rattle.std.proofs.Common.{Option, Some, None}
 use lib.Dec.{eqb, ltb, leb}
 use lib.ListN.{length, get_or, set, drop, length-set, length-append, drop_of_length-le, get_or-eq_default, get_or-append}
 use lib.Seq.{drop-cons, get_or-set_same, get_or-set_other, get_or-append_seam}
@@ -15,9 +16,9 @@ use borrow.Author.Tests.{lt-ltb, le-ltb, le-leb, lt-leb, eq-eqb, ne_eqb, ltb-tru
 use Rattle.reckon.specs.Tests.{all_below}
 use Rattle.reckon.proofs.TestLaws.{not_both, pick_true, pick_false, and_left, and_right, and_both, and_false, all_fails}
 use Rattle.reckon.proofs.ListLaws.{length-tabulate, get_or-tabulate, is_tabulate}
-use Rattle.text.specs.Reading.{newline, most_number, most_fields, is_byte, same_at, word_at, is_digit, digits_of, value_from, well_formed, number_from, number_at, field_at, Reading, before, read_fields, line_ended, padded, as_fields}
+use Rattle.text.specs.Reading.{newline, most_number, most_fields, is_byte, same_at, word_at, is_digit, digits_of, value_from, well_formed, number, number_from, number_at, field_at, Reading, before, with_number, read_fields, line_ended, padded, as_fields}
 use Rattle.text.specs.Reading.Reading.{read, unread}
-use Rattle.text.specs.declared.reading.Number.TheVariants.{Is, Not}
+use Rattle.text.specs.declared.reading.Number.{Number}
 use Rattle.text.specs.declared.reading.Fields.{Fields}
 
 -- ---- two cases
@@ -124,7 +125,7 @@ pub counted_none : (s : List ℕ) (at : ℕ) → Counted s at 0 at
 counted_none s at = record { small = omega arith; worth = refl; place = refl }
 
 module _ {s : List ℕ} {at value p : ℕ} (k : Counted s at value p) where
-  pub counted-end : is_digit (get_or s p 0) ≡ false → number_from (digits_of (drop at s)) at ≡ Is value p
+  pub counted-end : is_digit (get_or s p 0) ≡ false → number_from (digits_of (drop at s)) at ≡ number value p
   unfolding number_from value_from
   counted-end e =
       let w : value_from 0 (digits_of (drop at s)) ≡ value = k.worth ∙ rw (digits_end s p e) in
@@ -138,7 +139,7 @@ module _ {s : List ℕ} {at value p : ℕ} (k : Counted s at value p) where
         let z : get_or s p 0 - 48 ≡ d = omega arith in
         k.worth ∙ rw (digits_here s p e, z)
 
-    pub counted_over : most_number < value * 10 + d → number_from (digits_of (drop at s)) at ≡ Not
+    pub counted_over : most_number < value * 10 + d → number_from (digits_of (drop at s)) at ≡ None
     unfolding number_from
     counted_over h =
         pick_false _ _
@@ -161,12 +162,12 @@ first_many d [] h = refl
 first_many d (e ∷ ds) h = le-leb 1 d h
 
 module _ (s : List ℕ) (p : ℕ) where
-  pub number_none : is_digit (get_or s p 0) ≡ false → number_at s p ≡ Not
+  pub number_none : is_digit (get_or s p 0) ≡ false → number_at s p ≡ None
   unfolding number_at well_formed
   number_none e = pick_false _ _ (rw (digits_end s p e))
 
   module _ (e : is_digit (get_or s p 0) ≡ true) where
-    pub number_zero : (eqb (get_or s p 0) 48 && is_digit (get_or s (p + 1) 0)) ≡ true → number_at s p ≡ Not
+    pub number_zero : (eqb (get_or s p 0) 48 && is_digit (get_or s (p + 1) 0)) ≡ true → number_at s p ≡ None
     unfolding number_at well_formed
     number_zero f =
         let z : get_or s p 0 ≡ 48 = eqb-true _ _ (and_left _ _ f) in
@@ -181,6 +182,13 @@ module _ (s : List ℕ) (p : ℕ) where
         good : Dec (get_or s p 0 ≡ 48) → well_formed ((get_or s p 0 - 48) ∷ digits_of (drop (p + 1) s)) ≡ true
         good (yes z) = rw (digits_end s (p + 1) (rw (eq-eqb _ _ z) at f))
         good (no z) = first_many (get_or s p 0 - 48) (digits_of (drop (p + 1) s)) (omega (arith, digit_low (get_or s p 0) e, z))
+
+-- the number and the position that a number read is made of
+pub number_parts : {v q n r : ℕ} → number v q ≡ number n r → (v ≡ n) × (q ≡ r)
+number_parts e = (
+  ap (λ (x : Option Number). with_number x 0 (λ v q. v)) e,
+  ap (λ (x : Option Number). with_number x 0 (λ v q. q)) e,
+)
 
 -- ---- fields: those read so far, and those that are left
 
@@ -203,11 +211,11 @@ module _ (s : List ℕ) (p : ℕ) where
   unfolding read_fields
   fields_none = refl
 
-  pub fields_stop : (k : ℕ) → field_at s p ≡ Not → read_fields s p (suc k) ≡ unread
+  pub fields_stop : (k : ℕ) → field_at s p ≡ None → read_fields s p (suc k) ≡ unread
   unfolding read_fields
   fields_stop k e = rw e
 
-  pub fields_more : (k v q : ℕ) → field_at s p ≡ Is v q → read_fields s p (suc k) ≡ before (v ∷ []) (read_fields s q k)
+  pub fields_more : (k v q : ℕ) → field_at s p ≡ number v q → read_fields s p (suc k) ≡ before (v ∷ []) (read_fields s q k)
   unfolding read_fields
   fields_more k v q e = rw e
 
@@ -255,7 +263,7 @@ got_none s at count values e =
     }
 
 module _ {s : List ℕ} {at count : ℕ} {values : List ℕ} {p i : ℕ} (g : Got s at count values p i) where
-  pub got_all : count ≤ i → record { found = true; values = values; next = p } ≡ as_fields at (read_fields s at count)
+  pub got_all : count ≤ i → Some (record { values = values; next = p }) ≡ as_fields (read_fields s at count)
   unfolding as_fields before
   got_all h =
       let z : count - i ≡ 0 = omega (arith, g.within) in
@@ -266,10 +274,10 @@ module _ {s : List ℕ} {at count : ℕ} {values : List ℕ} {p i : ℕ} (g : Go
     one_left : count - i ≡ suc (count - (i + 1))
     one_left = omega arith
 
-    pub got_stop : field_at s p ≡ Not → read_fields s at count ≡ unread
+    pub got_stop : field_at s p ≡ None → read_fields s at count ≡ unread
     got_stop e = g.left ∙ (rw (one_left, fields_stop s p (count - (i + 1)) e) (before_unread g.done))
 
-    pub got_more : (v q : ℕ) → i < most_fields → field_at s p ≡ Is v q → Got s at count (set values i v) q (i + 1)
+    pub got_more : (v q : ℕ) → i < most_fields → field_at s p ≡ number v q → Got s at count (set values i v) q (i + 1)
     got_more v q l e =
         record {
           done = g.done ++ (v ∷ []);
@@ -286,42 +294,37 @@ module _ {s : List ℕ} {at count : ℕ} {values : List ℕ} {p i : ℕ} (g : Go
 
 -- ---- a reading as it is handed back
 
-module _ {f : Fields} (p : ℕ) (r : Reading) (is : f ≡ as_fields p r) where
-  pub unfound : f.found ≡ false → r ≡ unread
-  unfolding as_fields
-  unfound e = go r (ap (λ (g : Fields). g.found) (sym is) ∙ e)
-    where
-      go : (r : Reading) → (as_fields p r).found ≡ false → r ≡ unread
-      go (read vs q) e = not_both refl e
-      go unread e = refl
+pub unfound : (r : Reading) → None ≡ as_fields r → r ≡ unread
+unfolding as_fields
+unfound (read vs q) e = absurd (let z : ◌≡◌ {A = ℕ} 0 1 = cc in omega arith)
+unfound unread e = refl
 
-  -- what was found does not say from where on
-  pub found_anywhere : (q : ℕ) → f.found ≡ true → f ≡ as_fields q r
-  unfolding as_fields
-  found_anywhere q e = is ∙ go r (ap (λ (g : Fields). g.found) (sym is) ∙ e)
-    where
-      go : (r : Reading) → (as_fields p r).found ≡ true → as_fields p r ≡ as_fields q r
-      go (read vs n) e = refl
-      go unread e = not_both e refl
+-- what was read, where something was
+pub record Found (f : Fields) (r : Reading) : Type 0 where
+  pub list : List ℕ
+  pub is : r ≡ read list f.next
+  pub values : f.values ≡ padded list
 
-  pub unended : (s : List ℕ) → is_byte s f.next newline ≡ false → line_ended s r ≡ unread
-  unfolding as_fields line_ended
-  unended s e = go r (ap (λ (g : Fields). is_byte s g.next newline) (sym is) ∙ e)
-    where
-      go : (r : Reading) → is_byte s (as_fields p r).next newline ≡ false → line_ended s r ≡ unread
-      go (read vs q) e = pick_false _ _ e
-      go unread e = refl
+pub found_read : {f : Fields} (r : Reading) → Some f ≡ as_fields r → Found f r
+unfolding as_fields
+found_read {f} (read vs q) e =
+    let z : f ≡ record { values = padded vs; next = q } = cc in
+    record {
+      list = vs;
+      is = ap (read vs) (sym (ap (λ (g : Fields). g.next) z));
+      values = ap (λ (g : Fields). g.values) z;
+    }
+found_read unread e = absurd (let z : ◌≡◌ {A = ℕ} 0 1 = cc in omega arith)
+
+module _ {f : Fields} (r : Reading) (e : Some f ≡ as_fields r) (s : List ℕ) where
+  pub unended : is_byte s f.next newline ≡ false → line_ended s r ≡ unread
+  unfolding line_ended
+  unended h = let k = found_read r e in rw k.is (pick_false _ _ h)
 
   pub ended_found :
-      (s : List ℕ) → f.found ≡ true → is_byte s f.next newline ≡ true →
-      record { found = true; values = f.values; next = f.next + 1 } ≡ as_fields p (line_ended s r)
+      is_byte s f.next newline ≡ true → Some (record { values = f.values; next = f.next + 1 }) ≡ as_fields (line_ended s r)
   unfolding as_fields line_ended
-  ended_found s e h =
-      ap (λ (g : Fields). record { found = true; values = g.values; next = g.next + 1 }) is
-      ∙ go r (ap (λ (g : Fields). g.found) (sym is) ∙ e) (ap (λ (g : Fields). is_byte s g.next newline) (sym is) ∙ h)
-    where
-      go :
-          (r : Reading) → (as_fields p r).found ≡ true → is_byte s (as_fields p r).next newline ≡ true →
-          record { found = true; values = (as_fields p r).values; next = (as_fields p r).next + 1 } ≡ as_fields p (line_ended s r)
-      go (read vs q) e h = rw (pick_true (read vs (q + 1)) unread h)
-      go unread e h = not_both e refl
+  ended_found h =
+      let k = found_read r e in
+      ap (λ (vs : List ℕ). Some (record { values = vs; next = f.next + 1 })) k.values
+      ∙ sym (ap (λ (x : Reading). as_fields (line_ended s x)) k.is ∙ ap as_fields (pick_true _ _ h))

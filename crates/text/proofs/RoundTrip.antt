@@ -7,19 +7,19 @@ use mathlib.Core.List.{List, [], ◌∷◌, ◌++◌, append_assoc, append-nil}
 use Prim.Native.Nat.{ℕ, zero, suc, ◌+◌, ◌-◌, ◌*◌, ◌/◌, ◌%◌, ◌≤◌, ◌<◌}
 use native.Mathlib.Nat.{not-suc-le-zero, add-zero}
 use native.Mathlib.Omega.{arith}
+use Rattle.std.proofs.Common.{Option, Some, None}
 use lib.Dec.{leb}
 use lib.ListN.{length, get_or, take, drop, length-append, length-drop}
 use lib.Seq.{drop-drop, get_or-drop, get_or-take, ext_get_or, length-take-le}
 use borrow.Author.Tests.{le-leb, leb-true}
 use Rattle.reckon.proofs.TestLaws.{not_both, pick_true, pick_false, pick_both}
-use Rattle.text.specs.Reading.{tab, newline, most_number, most_fields, is_byte, word_at, is_digit, digits_of, value_from, well_formed, number_from, number_at, field_at, Reading, before, with_number, read_fields, line_ended, read_rest, read_line, padded, as_fields, FieldsAt, RestOfLine, LineOf}
+use Rattle.text.specs.Reading.{tab, newline, most_number, most_fields, is_byte, word_at, is_digit, digits_of, value_from, well_formed, number, number_from, number_at, field_at, Reading, before, with_number, read_fields, line_ended, read_rest, read_line, padded, as_fields, FieldsAt, RestOfLine, LineOf}
 use Rattle.text.specs.Reading.Reading.{read, unread}
 use Rattle.text.specs.Writing.{decimal, field_text, fields_text, rest_text, line_text, PutNumber, PutLine}
 use Rattle.text.specs.Inner.Standing.{Readable, StandsAt, StandAlone, AsWritten}
 use Rattle.text.specs.declared.reading.Number.{Number}
-use Rattle.text.specs.declared.reading.Number.TheVariants.{Is, Not}
 use Rattle.text.specs.declared.reading.Fields.{Fields}
-use Rattle.text.proofs.ReadingLaws.{by_test, by_lt, digit_is, digit_under, digit_low, digit_high, first_many, length-padded, get_or-padded, fields_more}
+use Rattle.text.proofs.ReadingLaws.{by_test, by_lt, digit_is, digit_under, digit_low, digit_high, first_many, number_parts, found_read, length-padded, get_or-padded, fields_more}
 use Rattle.text.proofs.StandLaws.{stands_none, stands_both, stands_first, stands_second, stands_within, stands_byte, byte_stands, stands_word, word_stands, wrote_stands, wrote_after}
 use Rattle.text.proofs.WritingLaws.{decimal_small, decimal_large}
 
@@ -131,7 +131,7 @@ pub digits_worth : (n : ℕ) → value_from 0 (digits_of (decimal n)) ≡ n
 digits_worth n = (figures n).worth
 
 -- it reads as itself
-pub number_back : {s : List ℕ} {p q : ℕ} (n : ℕ) → StandAlone s p (decimal n) (n ∷ []) q → number_at s p ≡ Is n q
+pub number_back : {s : List ℕ} {p q : ℕ} (n : ℕ) → StandAlone s p (decimal n) (n ∷ []) q → number_at s p ≡ number n q
 unfolding number_at number_from
 number_back {s} {p} {q} n a =
     let ds : digits_of (drop p s) ≡ digits_of (decimal n) =
@@ -193,7 +193,7 @@ formed_text (b ∷ l) w =
     zero_text b l (d ∷ ds) e z w = not_both w (rw z)
 
 -- a number that is read is what stands there, as it would be written, and no digit follows
-pub number_only : (s : List ℕ) (p : ℕ) {n q : ℕ} → number_at s p ≡ Is n q → StandAlone s p (decimal n) (n ∷ []) q
+pub number_only : (s : List ℕ) (p : ℕ) {n q : ℕ} → number_at s p ≡ number n q → StandAlone s p (decimal n) (n ∷ []) q
 unfolding number_at number_from
 number_only s p {n} {q} e =
     by_test (well_formed (digits_of (drop p s)))
@@ -203,16 +203,16 @@ number_only s p {n} {q} e =
     (λ m. none (sym (pick_true _ _ w ∙ pick_false _ _ m) ∙ e)))
     (λ w. none (sym (pick_false _ _ w) ∙ e))
   where
-    none : {A : Type 0} → Not ≡ Is n q → A
+    none : {A : Type 0} → None ≡ number n q → A
     none e = absurd (let z : ◌≡◌ {A = ℕ} 0 1 = cc in omega arith)
 
     known :
         well_formed (digits_of (drop p s)) ≡ true → value_from 0 (digits_of (drop p s)) ≤ most_number →
-        Is (value_from 0 (digits_of (drop p s))) (p + length (digits_of (drop p s))) ≡ Is n q →
+        number (value_from 0 (digits_of (drop p s))) (p + length (digits_of (drop p s))) ≡ number n q →
         StandAlone s p (decimal n) (n ∷ []) q
     known w m e =
-        let v : value_from 0 (digits_of (drop p s)) ≡ n = cc in
-        let r : p + length (digits_of (drop p s)) ≡ q = cc in
+        let v : value_from 0 (digits_of (drop p s)) ≡ n = (number_parts e).0 in
+        let r : p + length (digits_of (drop p s)) ≡ q = (number_parts e).1 in
         let t : decimal n ++ drop (length (digits_of (drop p s))) (drop p s) ≡ drop p s =
         rw v at (formed_text (drop p s) w) in
         record {
@@ -237,21 +237,21 @@ number_only s p {n} {q} e =
 
 -- ---- fields
 
-pub field_back : {s : List ℕ} {p q : ℕ} (n : ℕ) → StandAlone s p (field_text n) (n ∷ []) q → field_at s p ≡ Is n q
+pub field_back : {s : List ℕ} {p q : ℕ} (n : ℕ) → StandAlone s p (field_text n) (n ∷ []) q → field_at s p ≡ number n q
 unfolding field_at field_text
 field_back n a =
     pick_true _ _ (byte_stands a.stands).1
     ∙ number_back n
     (record { stands = stands_second (tab ∷ []) (decimal n) a.stands; alone = a.alone; readable = a.readable })
 
-pub field_only : (s : List ℕ) (p : ℕ) {n q : ℕ} → field_at s p ≡ Is n q → StandAlone s p (field_text n) (n ∷ []) q
+pub field_only : (s : List ℕ) (p : ℕ) {n q : ℕ} → field_at s p ≡ number n q → StandAlone s p (field_text n) (n ∷ []) q
 unfolding field_at field_text
 field_only s p {n} {q} e =
     by_test (is_byte s p tab)
     (λ b.
     let a = number_only s (p + 1) (sym (pick_true _ _ b) ∙ e) in
     record { stands = stands_both (stands_byte s p tab b) a.stands; alone = a.alone; readable = a.readable })
-    (λ b. let f : Not ≡ Is n q = sym (pick_false _ _ b) ∙ e in absurd (let z : ◌≡◌ {A = ℕ} 0 1 = cc in omega arith))
+    (λ b. let f : None ≡ number n q = sym (pick_false _ _ b) ∙ e in absurd (let z : ◌≡◌ {A = ℕ} 0 1 = cc in omega arith))
 
 pub tab-alone : is_digit tab ≡ false
 tab-alone = digit_under tab (omega arith)
@@ -274,7 +274,7 @@ fields_back {s} {p} {q} [] a = ap (read []) (omega (arith, a.stands.after))
 fields_back {s} {p} {q} (v ∷ vs) a =
     let rest : StandsAt s (p + length (field_text v)) (fields_text vs) q =
     stands_second (field_text v) (fields_text vs) a.stands in
-    let here : field_at s p ≡ Is v (p + length (field_text v)) =
+    let here : field_at s p ≡ number v (p + length (field_text v)) =
     field_back v
     (record {
       stands = stands_first (field_text v) (fields_text vs) a.stands;
@@ -300,7 +300,7 @@ fields_only s p zero {vs} {q} e =
 fields_only s p (suc count) {vs} {q} e = go (field_at s p) refl e (λ r ws n f. fields_only s r count f)
   where
     more :
-        (v r : ℕ) → field_at s p ≡ Is v r → (y : Reading) → read_fields s r count ≡ y → before (v ∷ []) y ≡ read vs q →
+        (v r : ℕ) → field_at s p ≡ number v r → (y : Reading) → read_fields s r count ≡ y → before (v ∷ []) y ≡ read vs q →
         ((ws : List ℕ) (n : ℕ) → read_fields s r count ≡ read ws n → AsWritten s r (fields_text ws) ws count n) →
         AsWritten s p (fields_text vs) vs (suc count) q
     more v r h unread f e ih = not-read e
@@ -318,11 +318,11 @@ fields_only s p (suc count) {vs} {q} e = go (field_at s p) refl e (λ r ws n f. 
         }))
 
     go :
-        (x : Number) → field_at s p ≡ x → with_number x unread (λ v r. before (v ∷ []) (read_fields s r count)) ≡ read vs q →
+        (x : Option Number) → field_at s p ≡ x → with_number x unread (λ v r. before (v ∷ []) (read_fields s r count)) ≡ read vs q →
         ((r : ℕ) (ws : List ℕ) (n : ℕ) → read_fields s r count ≡ read ws n → AsWritten s r (fields_text ws) ws count n) →
         AsWritten s p (fields_text vs) vs (suc count) q
-    go Not h e ih = not-read e
-    go (Is v r) h e ih = more v r h (read_fields s r count) refl e (ih r)
+    go None h e ih = not-read e
+    go (Some n) h e ih = more n.value n.next h (read_fields s n.next count) refl e (ih n.next)
 
 -- ---- a line
 
@@ -389,25 +389,6 @@ line_only s p word count {vs} {q} e =
 
 -- ---- the same of the fields that a call hands back
 
--- what was read, where it is said to be found
-pub record Found (f : Fields) (r : Reading) : Type 0 where
-  pub list : List ℕ
-  pub is : r ≡ read list f.next
-  pub values : f.values ≡ padded list
-
-pub found_read : {f : Fields} (p : ℕ) (r : Reading) → f ≡ as_fields p r → f.found ≡ true → Found f r
-unfolding as_fields
-found_read {f} p r e h = go r e
-  where
-    go : (r : Reading) → f ≡ as_fields p r → Found f r
-    go (read vs q) e =
-        record {
-          list = vs;
-          is = ap (read vs) (sym (ap (λ (g : Fields). g.next) e));
-          values = ap (λ (g : Fields). g.values) e;
-        }
-    go unread e = not_both h (ap (λ (g : Fields). g.found) e)
-
 pub take-padded : (vs : List ℕ) → length vs ≤ most_fields → take (length vs) (padded vs) ≡ vs
 take-padded vs h =
     let long : length (take (length vs) (padded vs)) ≡ length vs =
@@ -416,13 +397,13 @@ take-padded vs h =
     (λ i l. get_or-take (length vs) (padded vs) i 0 (omega arith) ∙ get_or-padded vs i (omega arith))
 
 -- what is found is what would be written from the first count values handed back
-module _ {f : Fields} (s : List ℕ) (p count : ℕ) (few : count ≤ most_fields) (found : f.found ≡ true) where
+module _ {f : Fields} (s : List ℕ) (p count : ℕ) (few : count ≤ most_fields) where
   as_found :
-      (text : List ℕ → List ℕ) (r : Reading) → f ≡ as_fields p r →
+      (text : List ℕ → List ℕ) (r : Reading) → Some f ≡ as_fields r →
       ((vs : List ℕ) (q : ℕ) → r ≡ read vs q → AsWritten s p (text vs) vs count q) →
       AsWritten s p (text (take count f.values)) (take count f.values) count f.next
   as_found text r e only =
-      let k = found_read p r e found in
+      let k = found_read r e in
       let a = only k.list f.next k.is in
       let g : k.list ≡ take count f.values =
       sym (take-padded k.list (omega (arith, a.many)))
@@ -430,15 +411,15 @@ module _ {f : Fields} (s : List ℕ) (p count : ℕ) (few : count ≤ most_field
       subst (λ (us : List ℕ). AsWritten s p (text us) us count f.next) g a
 
   pub fields_found :
-      FieldsAt s p count f → AsWritten s p (fields_text (take count f.values)) (take count f.values) count f.next
+      FieldsAt s p count (Some f) → AsWritten s p (fields_text (take count f.values)) (take count f.values) count f.next
   fields_found e = as_found fields_text (read_fields s p count) e (λ vs q. fields_only s p count)
 
   pub rest_found :
-      RestOfLine s p count f → AsWritten s p (rest_text (take count f.values)) (take count f.values) count f.next
+      RestOfLine s p count (Some f) → AsWritten s p (rest_text (take count f.values)) (take count f.values) count f.next
   rest_found e = as_found rest_text (read_rest s p count) e (λ vs q. rest_only s p count)
 
   pub line_found :
-      (word : List ℕ) → LineOf s p word count f →
+      (word : List ℕ) → LineOf s p word count (Some f) →
       AsWritten s p (line_text word (take count f.values)) (take count f.values) count f.next
   line_found word e = as_found (line_text word) (read_line s p word count) e (λ vs q. line_only s p word count)
 
@@ -446,7 +427,7 @@ module _ {f : Fields} (s : List ℕ) (p count : ℕ) (few : count ≤ most_field
 
 pub number_put :
     {old new : List ℕ} {at r : ℕ} (n : ℕ) → at + length (decimal n) ≤ length old → PutNumber n at old new r →
-    is_digit (get_or old r 0) ≡ false → n ≤ most_number → number_at new at ≡ Is n r
+    is_digit (get_or old r 0) ≡ false → n ≤ most_number → number_at new at ≡ number n r
 number_put {old} {new} {at} {r} n fits put none small =
     number_back n
     (record {

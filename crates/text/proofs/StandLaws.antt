@@ -1,22 +1,27 @@
 -- Laws of a text that stands in another: its parts stand one after the other, and a byte or a word is read exactly where it stands.
 -- Assumes nothing.
 use mathlib.Core.Path.{◌≡◌, refl, sym, ap, subst, ◌∙◌}
-use mathlib.Core.Bool.{true}
+use mathlib.Core.Bool.{Bool, true}
 use mathlib.Core.List.{List, [], ◌∷◌, ◌++◌, append_assoc, append-nil}
 use Prim.Native.Nat.{ℕ, ◌+◌, ◌-◌, ◌≤◌, ◌<◌}
 use native.Mathlib.Nat.{zero-add, add-zero}
 use native.Mathlib.Numerals.{add-one}
 use native.Mathlib.Omega.{arith}
+use lib.Dec.{eqb}
 use lib.ListN.{length, get_or, take, drop, length-append, length-drop, take-append-drop, drop_of_length-le, get_or-append}
 use lib.Seq.{drop-cons, drop-drop, drop-append_seam, drop_at, get_or-drop, get_or-take, ext_get_or, length-take-le}
 use borrow.Author.Tests.{eq-eqb, eqb-true}
-use Rattle.reckon.proofs.TestLaws.{all_at, all_of}
+use Rattle.std.specs.List.{starts_with}
+use Rattle.std.proofs.lemmas.List.{take_all}
+use Rattle.std.proofs.lemmas.Slice.Eq.{starts_is}
+use Rattle.std.proofs.lemmas.Bool.Decides.{Decides-eqb}
+use Rattle.reckon.proofs.TestLaws.{not_both, no_more, all_at, all_of}
 use Rattle.text.specs.Reading.{is_byte, word_at, same_at}
 use Rattle.text.specs.Writing.{Wrote}
 use Rattle.text.specs.Inner.Standing.{StandsAt}
 use Rattle.reckon.specs.Lists.{placed}
 use Rattle.reckon.proofs.ListLaws.{placed-after}
-use Rattle.text.proofs.ReadingLaws.{byte_here, byte_within, byte_same, word_within, word_all, word_same}
+use Rattle.text.proofs.ReadingLaws.{by_test, byte_here, byte_within, byte_same, word_within, word_all, word_same}
 
 pub stands_none : (s : List ℕ) (p : ℕ) → StandsAt s p [] p
 stands_none s p = record { after = sym (add-zero p); text = refl }
@@ -98,6 +103,18 @@ word_stands {s} {word} {p} {q} h a =
     eq-eqb _ _
     (sym (get_or-drop p s i 0)
     ∙ (ap (λ (t : List ℕ). get_or t i 0) a.text ∙ get_or-append word (drop q s) 0 i l))))
+
+-- a text from p on starts with the word exactly where the word stands at p
+pub word_starts :
+    (s : List ℕ) (p : ℕ) (word : List ℕ) → p ≤ length s → (r : Bool) →
+    r ≡ starts_with eqb (take (length s - p) (drop p s)) word → r ≡ word_at s p word
+word_starts s p word h r e =
+    let is = starts_is Decides-eqb (drop p s) word r (rw (take_all (length s - p) (drop p s) (omega (arith, length-drop p s))) at e) in
+    by_test r
+    (λ t.
+    let q : p + length word ≤ length s = omega (arith, ap length (is.0 t), length-append word (drop (length word) (drop p s)), length-drop p s) in
+    t ∙ sym (word_stands q (record { after = refl; text = is.0 t ∙ ap (λ (l : List ℕ). word ++ l) (drop-drop (length word) p s) })))
+    (λ t. t ∙ sym (no_more (word_at s p word) (λ w. not_both (is.1 _ (stands_word s p word w).text) t)))
 
 -- what was put into a room stands there, and what follows it in the room is as it was
 module _ {t old new : List ℕ} {at r : ℕ} (fits : at + length t ≤ length old) (put : Wrote t at old new r) where

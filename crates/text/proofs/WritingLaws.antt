@@ -2,12 +2,12 @@
 -- Assumes nothing.
 use mathlib.Core.Path.{◌≡◌, refl, sym, ap, subst, ◌∙◌}
 use mathlib.Core.List.{List, [], ◌∷◌, ◌++◌, append_assoc}
-use Prim.Native.Nat.{ℕ, zero, suc, ◌+◌, ◌*◌, ◌-◌, ◌/◌, ◌%◌, ◌^◌, ◌≤◌, ◌<◌}
+use Prim.Native.Nat.{ℕ, zero, suc, ◌+◌, ◌*◌, ◌/◌, ◌%◌, ◌^◌, ◌≤◌, ◌<◌}
 use native.Mathlib.Nat.{mul-suc, add-zero, add-suc, suc-add, not-suc-le-zero, pow-suc}
 use native.Mathlib.Numerals.{add-one}
 use native.Mathlib.Omega.{arith}
 use lib.ListN.{length, get_or, set, take, drop, length-append, take-append-drop, drop_of_length-le}
-use lib.Seq.{sets, sets-eq, paste, paste-suc, drop-drop, drop-cons, take-length}
+use lib.Seq.{sets, sets-eq, paste, drop-drop, drop-cons, take-length}
 use Rattle.reckon.specs.Lists.{placed}
 use Rattle.reckon.proofs.ListLaws.{length-placed}
 use Rattle.text.specs.Reading.{newline}
@@ -110,15 +110,6 @@ placed_none old a = take-append-drop a old
 pub placed_paste : (old : List ℕ) (a : ℕ) (word : List ℕ) → paste old a word (length word) ≡ placed old a word
 unfolding placed
 placed_paste old a word = rw (take-length word, drop-drop (length word) a old, append_assoc)
-
--- a turn of the loop that copies
-pub paste_more :
-    {room : List ℕ} (old : List ℕ) (a : ℕ) (word : List ℕ) (i : ℕ) → room ≡ paste old a word i → a + i < length old →
-    i < length word →
-    set room (a + i) (get_or word i 0) ≡ paste old a word (i + 1)
-paste_more old a word i e h l =
-    ap (λ (r : List ℕ). set r (a + i) (get_or word i 0)) e
-    ∙ (paste-suc old a word i 0 h l ∙ ap (paste old a word) (sym (add-one i)))
 
 pub wrote_length :
     {t old new : List ℕ} {at r : ℕ} → at + length t ≤ length old → Wrote t at old new r → length new ≡ length old

@@ -1,10 +1,9 @@
 -- Document 01, "The sheet and its program": numbers, fields and lines, read at a position of a text.
 -- Assumes nothing.
-use Rattle.std.specs.Prelude.{◌≡◌, Bool, true, false, ◌&&◌, List, [], ◌∷◌, ◌++◌, ℕ, zero, suc, ◌+◌, ◌-◌, ◌*◌, eqb, ltb, leb, length, get_or, drop}
+use Rattle.std.specs.Prelude.{◌≡◌, Bool, true, false, ◌&&◌, List, [], ◌∷◌, ◌++◌, ℕ, zero, suc, ◌+◌, ◌-◌, ◌*◌, eqb, ltb, leb, length, get_or, drop, Option, Some, None}
 use Rattle.reckon.specs.Tests.{pick, all_below}
 use Rattle.reckon.specs.Lists.{tabulate}
 use Rattle.text.specs.declared.reading.Number.{Number}
-use Rattle.text.specs.declared.reading.Number.TheVariants.{Is, Not}
 use Rattle.text.specs.declared.reading.Fields.{Fields}
 
 -- "fields parted by one tab, each line line_ended by a newline"
@@ -57,19 +56,23 @@ well_formed [] = false
 well_formed (d ∷ []) = true
 well_formed (d ∷ (e ∷ ds)) = leb 1 d
 
+-- a number and the position after it
+abbrev pub number : ℕ → ℕ → Option Number
+number v q = Some (record { value = v; next = q })
+
 -- what digits at p say: their number and the position after them, where it is not above the most
-unfoldable pub number_from : List ℕ → ℕ → Number
-number_from ds p = pick (leb (value_from 0 ds) most_number) (Is (value_from 0 ds) (p + length ds)) Not
+unfoldable pub number_from : List ℕ → ℕ → Option Number
+number_from ds p = pick (leb (value_from 0 ds) most_number) (number (value_from 0 ds) (p + length ds)) None
 
 -- the number at p
-unfoldable pub number_at : List ℕ → ℕ → Number
-number_at s p = pick (well_formed (digits_of (drop p s))) (number_from (digits_of (drop p s)) p) Not
+unfoldable pub number_at : List ℕ → ℕ → Option Number
+number_at s p = pick (well_formed (digits_of (drop p s))) (number_from (digits_of (drop p s)) p) None
 
 -- ---- fields and lines
 
 -- a field: a tab and a number
-unfoldable pub field_at : List ℕ → ℕ → Number
-field_at s p = pick (is_byte s p tab) (number_at s (p + 1)) Not
+unfoldable pub field_at : List ℕ → ℕ → Option Number
+field_at s p = pick (is_byte s p tab) (number_at s (p + 1)) None
 
 -- what reading several fields finds: their values and the position after them, or none
 pub data Reading : Type 0 where
@@ -82,9 +85,9 @@ before vs (read ws q) = read (vs ++ ws) q
 before vs unread = unread
 
 -- a number with the position after it handed on, or the answer where there is none
-abbrev pub with_number : {A : Type 0} → Number → A → (ℕ → ℕ → A) → A
-with_number (Is v q) other f = f v q
-with_number Not other f = other
+abbrev pub with_number : {A : Type 0} → Option Number → A → (ℕ → ℕ → A) → A
+with_number (Some n) other f = f n.value n.next
+with_number None other f = other
 
 -- exactly count fields from p on
 unfoldable pub read_fields : List ℕ → ℕ → ℕ → Reading
@@ -108,20 +111,20 @@ read_line s p word count = pick (word_at s p word) (read_rest s (p + length word
 unfoldable pub padded : List ℕ → List ℕ
 padded vs = tabulate most_fields (λ i. get_or vs i 0)
 
--- a reading from p on as it is handed back; where nothing was read, p itself is next
-unfoldable pub as_fields : ℕ → Reading → Fields
-as_fields p (read vs q) = record { found = true; values = padded vs; next = q }
-as_fields p unread = record { found = false; values = padded []; next = p }
+-- a reading as it is handed back
+unfoldable pub as_fields : Reading → Option Fields
+as_fields (read vs q) = Some (record { values = padded vs; next = q })
+as_fields unread = None
 
 -- fields, the rest of a line and a line of a kind, as they are handed back
-abbrev pub fields_at : List ℕ → ℕ → ℕ → Fields
-fields_at s p count = as_fields p (read_fields s p count)
+abbrev pub fields_at : List ℕ → ℕ → ℕ → Option Fields
+fields_at s p count = as_fields (read_fields s p count)
 
-abbrev pub rest_of_line : List ℕ → ℕ → ℕ → Fields
-rest_of_line s p count = as_fields p (read_rest s p count)
+abbrev pub rest_of_line : List ℕ → ℕ → ℕ → Option Fields
+rest_of_line s p count = as_fields (read_rest s p count)
 
-abbrev pub line_of : List ℕ → ℕ → List ℕ → ℕ → Fields
-line_of s p word count = as_fields p (read_line s p word count)
+abbrev pub line_of : List ℕ → ℕ → List ℕ → ℕ → Option Fields
+line_of s p word count = as_fields (read_line s p word count)
 
 -- ---- lines
 
@@ -152,17 +155,17 @@ DigitJudged s p r = r ≡ is_digit (get_or s p 0)
 abbrev pub DigitAt : List ℕ → ℕ → ℕ → Type 0
 DigitAt s p r = r + 48 ≡ get_or s p 0
 
-abbrev pub NumberReadAt : List ℕ → ℕ → Number → Type 0
+abbrev pub NumberReadAt : List ℕ → ℕ → Option Number → Type 0
 NumberReadAt s p r = r ≡ number_at s p
 
-abbrev pub FieldAt : List ℕ → ℕ → Number → Type 0
+abbrev pub FieldAt : List ℕ → ℕ → Option Number → Type 0
 FieldAt s p r = r ≡ field_at s p
 
-abbrev pub FieldsAt : List ℕ → ℕ → ℕ → Fields → Type 0
+abbrev pub FieldsAt : List ℕ → ℕ → ℕ → Option Fields → Type 0
 FieldsAt s p count r = r ≡ fields_at s p count
 
-abbrev pub RestOfLine : List ℕ → ℕ → ℕ → Fields → Type 0
+abbrev pub RestOfLine : List ℕ → ℕ → ℕ → Option Fields → Type 0
 RestOfLine s p count r = r ≡ rest_of_line s p count
 
-abbrev pub LineOf : List ℕ → ℕ → List ℕ → ℕ → Fields → Type 0
+abbrev pub LineOf : List ℕ → ℕ → List ℕ → ℕ → Option Fields → Type 0
 LineOf s p word count r = r ≡ line_of s p word count

@@ -1,20 +1,19 @@
 -- Numbers and lines worked by hand: on the left what the definitions give, on the right what they should be.
 -- Assumes nothing.
-use Rattle.std.specs.Prelude.{◌≡◌, [], ◌∷◌}
+use Rattle.std.specs.Prelude.{◌≡◌, [], ◌∷◌, None}
 use Prim.Native.String.{String}
 use Rattle.text.specs.Bytes.{bytes_of}
-use Rattle.text.specs.Reading.{number_at, read_line, next_line}
+use Rattle.text.specs.Reading.{number, number_at, read_line, next_line}
 use Rattle.text.specs.Reading.Reading.{read, unread}
 use Rattle.text.specs.Writing.{decimal, line_text}
-use Rattle.text.specs.declared.reading.Number.TheVariants.{Is, Not}
 
 pub record NumbersWorked : Type 0 where
-  pub zero_read : number_at (48 ∷ []) 0 ≡ Is 0 1
-  pub needless_zero : number_at (bytes_of "07") 0 ≡ Not
-  pub greatest : number_at (bytes_of "4294967295") 0 ≡ Is 4_294_967_295 10
-  pub too_great : number_at (bytes_of "4294967296") 0 ≡ Not
-  pub signed : number_at (bytes_of "-1") 0 ≡ Not
-  pub nothing : number_at [] 0 ≡ Not
+  pub zero_read : number_at (48 ∷ []) 0 ≡ number 0 1
+  pub needless_zero : number_at (bytes_of "07") 0 ≡ None
+  pub greatest : number_at (bytes_of "4294967295") 0 ≡ number 4_294_967_295 10
+  pub too_great : number_at (bytes_of "4294967296") 0 ≡ None
+  pub signed : number_at (bytes_of "-1") 0 ≡ None
+  pub nothing : number_at [] 0 ≡ None
   pub zero_written : decimal 0 ≡ 48 ∷ []
   pub greatest_written : decimal 4_294_967_295 ≡ bytes_of "4294967295"
 

@@ -17,14 +17,12 @@ pub fn line_end(text: &[u8], at: usize) -> usize
     requires { at ≤ length text.now }
     ensures { LineEnd text.now at result }
 {
-    let mut end = at;
-    while end < text.len() {
+    for end in at..text.len() {
         if text[end] == NEWLINE {
             return end;
         }
-        end += 1;
     }
-    end
+    text.len()
 }
 
 // Where the line after the one at a position starts.
@@ -57,10 +55,8 @@ pub fn nth_line(text: &[u8], k: usize) -> Line
     ensures { NthLine text.now k result }
 {
     let mut at: usize = 0;
-    let mut i: usize = 0;
-    while i < k {
+    for _ in 0..k {
         at = next_line(text, at);
-        i += 1;
     }
     line_at(text, at)
 }

@@ -1,18 +1,17 @@
 // Reading at a position of a text. A position past the end reads as nothing.
 ghost use Rattle.std.specs.Prelude.{◌≡◌, true, ◌&&◌, ◌+◌, ◌≤◌, eqb, get_or, drop};
-ghost use Rattle.text.specs.Reading.{most_fields, is_digit, digits_of, number_from, ByteIs, WordAt, DigitJudged, DigitAt, NumberReadAt, FieldAt, FieldsAt, RestOfLine, LineOf, as_fields, Reading};
+ghost use Rattle.text.specs.Reading.{most_fields, is_digit, digits_of, number_from, ByteIs, WordAt, DigitJudged, DigitAt, NumberReadAt, FieldAt, FieldsAt, RestOfLine, LineOf};
 
-// What stands at a position as a number: its value and the position after it, or none.
+// A number read at a position: its value and the position after it.
 #[derive(Clone, Copy)]
-pub enum Number {
-    Is(u32, usize),
-    Not,
+pub struct Number {
+    pub value: u32,
+    pub next: usize,
 }
 
-// The fields of a line: whether they were all found, their values with 0 after them, and the position after them.
+// The fields of a line: their values with 0 after them, and the position after them.
 #[derive(Clone, Copy)]
 pub struct Fields {
-    pub found: bool,
     pub values: [u32; 8],
     pub next: usize,
 }
@@ -41,17 +40,7 @@ pub fn word_at(text: &[u8], at: usize, word: &[u8]) -> bool
     if text.len() < at {
         return false;
     }
-    if text.len() - at < word.len() {
-        return false;
-    }
-    let mut i: usize = 0;
-    while i < word.len() {
-        if text[at + i] != word[i] {
-            return false;
-        }
-        i += 1;
-    }
-    true
+    text[at..].starts_with(word)
 }
 
 // A digit stands at a position.
@@ -86,111 +75,86 @@ fn needless_zero(text: &[u8], at: usize) -> bool
     is_digit(text, at + 1)
 }
 
-// The digits at a position as a number.
-fn digits(text: &[u8], at: usize) -> Number
+// The digits at a position as a number, none where they make more than the most.
+fn digits(text: &[u8], at: usize) -> Option<Number>
     ensures { result ≡ number_from (digits_of (drop at text.now)) at }
 {
     let mut value: u64 = 0;
-    let mut p = at;
-    while is_digit(text, p) {
-        value = value * 10 + digit(text, p);
+    let mut next = at;
+    while is_digit(text, next) {
+        value = value * 10 + digit(text, next);
         if MOST_NUMBER < value {
-            return Number::Not;
+            return None;
         }
-        p += 1;
+        next += 1;
     }
-    Number::Is(value as u32, p)
+    Some(Number {
+        value: value as u32,
+        next,
+    })
 }
 
-// The number at a position.
-pub fn number_at(text: &[u8], at: usize) -> Number
+// The number at a position, if one stands there.
+pub fn number_at(text: &[u8], at: usize) -> Option<Number>
     ensures { NumberReadAt text.now at result }
 {
     if !is_digit(text, at) {
-        return Number::Not;
+        return None;
     }
     if needless_zero(text, at) {
-        return Number::Not;
+        return None;
     }
     digits(text, at)
 }
 
 // A tab and a number.
-pub fn field_at(text: &[u8], at: usize) -> Number
+pub fn field_at(text: &[u8], at: usize) -> Option<Number>
     ensures { FieldAt text.now at result }
 {
     if !byte_is(text, at, TAB) {
-        return Number::Not;
+        return None;
     }
     number_at(text, at + 1)
 }
 
-// Nothing was read at a position.
-fn nothing(at: usize) -> Fields
-    ensures { result ≡ as_fields at Reading.unread }
-{
-    Fields {
-        found: false,
-        values: [0; 8],
-        next: at,
-    }
-}
-
 // Exactly count fields from a position on.
-pub fn fields_at(text: &[u8], at: usize, count: usize) -> Fields
+pub fn fields_at(text: &[u8], at: usize, count: usize) -> Option<Fields>
     requires { count ≤ most_fields }
     ensures { FieldsAt text.now at count result }
 {
     let mut values: [u32; 8] = [0; 8];
-    let mut p = at;
-    let mut i: usize = 0;
-    while i < count {
-        let Number::Is(value, next) = field_at(text, p) else {
-            return nothing(at);
-        };
-        values[i] = value;
-        p = next;
-        i += 1;
+    let mut next = at;
+    for i in 0..count {
+        let field = field_at(text, next)?;
+        values[i] = field.value;
+        next = field.next;
     }
-    Fields {
-        found: true,
-        values: values,
-        next: p,
-    }
+    Some(Fields { values, next })
 }
 
 // Exactly count fields from a position on, and then the end of the line.
-pub fn rest_of_line(text: &[u8], at: usize, count: usize) -> Fields
+pub fn rest_of_line(text: &[u8], at: usize, count: usize) -> Option<Fields>
     requires { count ≤ most_fields }
     ensures { RestOfLine text.now at count result }
 {
-    let fields = fields_at(text, at, count);
-    if !fields.found {
-        return nothing(at);
-    }
+    let fields = fields_at(text, at, count)?;
     let end = fields.next;
     if !byte_is(text, end, NEWLINE) {
-        return nothing(at);
+        return None;
     }
-    let values = fields.values;
-    Fields {
-        found: true,
-        values: values,
+    Some(Fields {
         next: end + 1,
-    }
+        ..fields
+    })
 }
 
 // A line of a kind: its word, exactly count fields, and the end of the line.
-pub fn line_of(text: &[u8], at: usize, word: &[u8], count: usize) -> Fields
+pub fn line_of(text: &[u8], at: usize, word: &[u8], count: usize) -> Option<Fields>
     requires { count ≤ most_fields }
     ensures { LineOf text.now at word.now count result }
 {
     if !word_at(text, at, word) {
-        return nothing(at);
+        return None;
     }
-    let rest = rest_of_line(text, at + word.len(), count);
-    if !rest.found {
-        return nothing(at);
-    }
-    rest
+    rest_of_line(text, at + word.len(), count)
 }

@@ -21,12 +21,9 @@ pub fn put_word(room: &mut [u8], at: usize, word: &[u8]) -> usize
     requires { at + length word.now ≤ length room.old }
     ensures { PutWord word.now at room.old room.new result }
 {
-    let mut i: usize = 0;
-    while i < word.len() {
-        room[at + i] = word[i];
-        i += 1;
-    }
-    at + i
+    let next = at + word.len();
+    room[at..next].copy_from_slice(word);
+    next
 }
 
 // A number in decimal: the digits before its last, and then its last.
@@ -55,13 +52,11 @@ pub fn put_fields(room: &mut [u8], at: usize, values: &[u64]) -> usize
     requires { at + length (fields_text values.now) ≤ length room.old }
     ensures { PutFields values.now at room.old room.new result }
 {
-    let mut p = at;
-    let mut i: usize = 0;
-    while i < values.len() {
-        p = put_field(room, p, values[i]);
-        i += 1;
+    let mut next = at;
+    for value in values {
+        next = put_field(room, next, *value);
     }
-    p
+    next
 }
 
 // A line of a kind: its word, a field for each value, and the end of the line.

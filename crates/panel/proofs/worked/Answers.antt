@@ -1,11 +1,8 @@
 -- `panel::worked` meets its contract, as `reckon::roots::by_digits` does.
 -- Assumes nothing.
 use native.Mathlib.Omega.{arith}
-use Rattle.reckon.proofs.PlaceLaws.{place_down, none_raised, all_raised}
+use Rattle.reckon.proofs.PlaceLaws.{place_down, none_raised}
 use Rattle.panel.proofs.worked.Goals as goal
-
-pub place_above-place-requires : goal.place_above-place-requires
-place_above-place-requires g c = c.requires
 
 pub loop-place-init : goal.loop-place-init
 loop-place-init g c = (c.place_above-place.ensures.0, none_raised c.requires c.place_above-place.ensures.1)
@@ -17,6 +14,3 @@ raise_digit-root-requires g c =
 
 pub loop-place-preserved : goal.loop-place-preserved
 loop-place-preserved g c = (place_down c.loop-place.invariant.0 (omega arith), c.raise_digit-root.ensures)
-
-pub returns : goal.returns
-returns g c = all_raised c.loop-place.invariant.0 (omega arith) c.loop-place.invariant.1

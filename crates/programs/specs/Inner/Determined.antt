@@ -5,7 +5,7 @@ use Rattle.reckon.specs.Outcomes.{One}
 use Rattle.ledger.specs.Runs.{Plan}
 use Rattle.flood.specs.declared.run.Ran.{Ran}
 use Rattle.sheet.specs.Sheet.{Rooms}
-use Rattle.programs.specs.Program.{RunsSheet, PutRan}
+use Rattle.programs.specs.Program.{RunsSheet, PutRan, Prints, text_printed}
 use Rattle.programs.specs.Reading.{ReadsWithin}
 use Rattle.sheet.specs.declared.reading.Heading.{Heading}
 use Rattle.sheet.specs.declared.reading.Sheet.{Sheet}
@@ -17,3 +17,5 @@ pub record ProgramsDetermined : Type 0 where
       One {Out = Ran × (List ℕ × (List ℕ × List ℕ))} (λ o. RunsSheet h held o.0 o.1.0 o.1.1.0 o.1.1.1)
   pub put_ran : (p : Plan) (depths : List ℕ) (ran : Ran) (at : ℕ) (room : List ℕ) →
       One {Out = ℕ × List ℕ} (λ o. PutRan p depths ran at room o.1 o.0)
+  pub printed_of : (printed : Heading → Rooms → List ℕ) (text old : List ℕ) →
+      One {Out = ℕ × List ℕ} (λ o. Prints (text_printed printed text) old o.1 o.0)

@@ -1,10 +1,10 @@
 -- What rooms of a size hold after a sheet was read well into them: all that a program must know to hand on their parts.
 -- Assumes nothing.
-use Rattle.std.specs.Prelude.{◌≡◌, ℕ, ◌*◌, ◌≤◌, length, take}
+use Rattle.std.specs.Prelude.{◌≡◌, List, ℕ, ◌*◌, ◌≤◌, length, take}
 use Rattle.reckon.specs.Ranges.{most_table_rows}
 use Rattle.reckon.specs.Tables.{rain_kind, inflow_kind, table_room}
 use Rattle.grid.specs.Squares.{ShapeInRange, squares}
-use Rattle.sheet.specs.Sheet.{Rooms, rooms, checks_in}
+use Rattle.sheet.specs.Sheet.{Rooms, rooms, checks_in, no_lasts, no_records}
 use Rattle.sheet.specs.declared.reading.Heading.{Heading}
 
 -- "Each room is filled from its start": of each room the numbers that belong to the sheet that was read into it
@@ -35,3 +35,13 @@ pub record Holds (size : ℕ) (h : Heading) (held : Rooms) : Type 0 where
   pub inflow_long : length held.inflow ≡ table_room inflow_kind
   -- the checks of a run to the sheet's end pass
   pub passes : checks_in h.shape h.rules (parts_of h held) h.end ≡ 0
+
+-- what the run of a sheet begins with: those parts, no last leaving, and a room for one record
+pub record Begins (size : ℕ) (h : Heading) (parts : Rooms) (lasts records : List ℕ) : Type 0 where
+  pub shape : ShapeInRange h.shape
+  pub few : squares h.shape ≤ size
+  pub marks_long : length parts.cells.marks ≡ squares h.shape
+  pub depths_long : length parts.cells.depths ≡ squares h.shape
+  pub passes : checks_in h.shape h.rules parts h.end ≡ 0
+  pub lasts_none : lasts ≡ no_lasts h.shape h.rules parts
+  pub records_none : records ≡ no_records h.shape h.rules parts

@@ -1,6 +1,6 @@
 -- What the functions that read and write a grid give one another.
 -- Assumes nothing.
-use Rattle.std.specs.Prelude.{◌≡◌, Bool, ◌&&◌, List, ℕ, ◌+◌, leb, length, get_or}
+use Rattle.std.specs.Prelude.{◌≡◌, Bool, ◌&&◌, List, ℕ, ◌+◌, leb, length, get_or, is_some}
 use Rattle.reckon.specs.Tests.{pick, first_failing}
 use Rattle.grid.specs.Squares.{squares}
 use Rattle.grid.specs.declared.squares.Shape.{Shape}
@@ -16,7 +16,7 @@ value_start s p word = pick (word_at s p word && is_byte s (p + length word) spa
 
 -- how many squares can be read from p on
 abbrev pub read_from : Scale → List ℕ → ℕ → Shape → ℕ
-read_from k s p shape = first_failing (squares shape) (λ i. (entry_from k s p shape.columns i).found)
+read_from k s p shape = first_failing (squares shape) (λ i. is_some (entry_from k s p shape.columns i))
 
 -- whether that is all of them, and where the reading stops
 pub record Stops (k : Scale) (s : List ℕ) (p : ℕ) (shape : Shape) (all : Bool) (next : ℕ) : Type 0 where

@@ -8,11 +8,11 @@ use Rattle.reckon.specs.Tables.{rain_kind, inflow_kind}
 use Rattle.grid.specs.Squares.{ShapeInRange, squares}
 use Rattle.grid.specs.declared.squares.Shape.{Shape}
 use Rattle.text.specs.Reading.{word_at, line_from}
-use Rattle.raster.specs.Raster.{entry_from}
+use Rattle.raster.specs.Raster.{is_shut, entry_from}
 use Rattle.raster.specs.declared.amounts.Scale.{Scale}
 use Rattle.raster.specs.declared.amounts.Scale.TheVariants.{Metres, Whole}
 use Rattle.sheet.specs.Lines.{rain_word, inflow_word}
-use Rattle.sheet.specs.Sheet.{Rooms, rooms, table_rows, checks_in, line_one, shape_of, cells_at, rain_at, rain_rows, inflow_at, inflow_rows, heading_of}
+use Rattle.sheet.specs.Sheet.{Rooms, rooms, table_rows, checks_in, has_one, shape_of, cells_at, rain_at, rain_rows, inflow_at, inflow_rows, heading_of}
 use Rattle.sheet.specs.declared.reading.Heading.{Heading}
 use Rattle.sheet.specs.declared.rooms.Scan.{Scan}
 use Rattle.sheet.specs.Written.{sheet_written}
@@ -41,7 +41,7 @@ pub record MarksCounted (s : List ℕ) (p : ℕ) (shape : Shape) (r : Scan) : Ty
 
 -- a note that can be read: its heading, and where its squares and tables start
 pub record NoteIs (s : List ℕ) (r : Note) : Type 0 where
-  pub one_found : (line_one s).found ≡ true
+  pub one_found : has_one s ≡ true
   pub heading_is : r.heading ≡ heading_of s
   pub cells_at_is : r.cells_at ≡ cells_at s
   pub rain_at_is : r.rain_at ≡ rain_at s
@@ -58,7 +58,7 @@ closed_same closed mark = pick closed (eqb mark 0) (not (eqb mark 0))
 -- so are all, the first square's line being at q in the note and the first square at p in the grid
 unfoldable pub closed_agree : List ℕ → ℕ → Scale → List ℕ → ℕ → Shape → Bool
 closed_agree note q k grid p shape =
-    all_below (squares shape) (λ i. closed_same (entry_from k grid p shape.columns i).closed (mark_from note q shape.columns i))
+    all_below (squares shape) (λ i. closed_same (is_shut (entry_from k grid p shape.columns i)) (mark_from note q shape.columns i))
 
 -- of a set only the note matters where one grid is compared with it
 abbrev pub noted : List ℕ → Set

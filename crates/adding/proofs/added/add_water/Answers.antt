@@ -6,8 +6,6 @@ use Rattle.adding.proofs.AddedLaws.{rain_asked, pours, rain_too_much, wetted}
 use Rattle.adding.proofs.added.add_water.Goals as goal
 use Rattle.adding.proofs.added.add_water.Goals.{Start}
 
--- ---- the places, each by the one before it
-
 -- ---- what is known there
 
 abbrev p : Start → Plan

@@ -2,23 +2,14 @@
 -- Assumes nothing.
 use mathlib.Core.Path.{sym, ◌∙◌}
 use native.Mathlib.Omega.{arith}
-use Rattle.reckon.proofs.TestLaws.{all_none, all_more, all_fails, all_whole}
+use Rattle.reckon.proofs.TestLaws.{all_none, all_more, all_fails}
 use Rattle.adding.proofs.added.all_closed.Goals as goal
 
 pub loop-square-init : goal.loop-square-init
-loop-square-init c = (omega arith, all_none _)
+loop-square-init c = all_none _
 
 pub returns-then-not-is_closed : goal.returns-then-not-is_closed
-returns-then-not-is_closed c =
-    sym
-    (all_fails _ _ c.loop-square.square c.loop-square-test.true
-    (sym c.is_closed.ensures ∙ c.if-not-is_closed.true))
+returns-then-not-is_closed c = sym (all_fails _ _ c.loop-square.square (omega arith) (sym c.is_closed.ensures ∙ c.if-not-is_closed.true))
 
 pub loop-square-preserved : goal.loop-square-preserved
-loop-square-preserved c = (
-  omega arith,
-  all_more _ _ c.loop-square.invariant.1 (sym c.is_closed.ensures ∙ c.if-not-is_closed.false),
-)
-
-pub returns : goal.returns
-returns c = sym (all_whole _ c.loop-square.invariant.1 (omega arith))
+loop-square-preserved c = all_more _ _ c.loop-square.invariant (sym c.is_closed.ensures ∙ c.if-not-is_closed.false)

@@ -15,8 +15,6 @@ use Rattle.adding.specs.Inner.Added.{amount_at, row_square}
 use Rattle.adding.proofs.added.pour_row.Goals as goal
 use Rattle.adding.proofs.added.pour_row.Goals.{After-poured, After-square_at-square, Start}
 
--- ---- the places, each by the one before it
-
 -- ---- what is known there
 
 -- the square of the row, and what is added to it
@@ -64,18 +62,6 @@ pub returns-then-amount : goal.returns-then-amount
 returns-then-amount c =
     let e = amount_is (goal.at.returns-then-amount c).After-poured in
     record { fits_is = sym (lt-leb (amount (goal.at.returns-then-amount c).Start) most_depth (omega arith)); stored = λ t. not_both t refl; long = refl }
-
-pub square_at-square-requires : goal.square_at-square-requires
-square_at-square-requires c =
-    let a = c.requires.0 in
-    record {
-      fine = a.fine;
-      row_in = omega (arith, a.row_in c.args.j c.requires.2);
-      column_in = omega (arith, a.column_in c.args.j c.requires.2);
-    }
-
-pub offset_bounds-room-square : goal.offset_bounds-room-square
-offset_bounds-room-square c = omega (arith, within c, c.requires.0.fine.few)
 
 pub bounds-room-square : goal.bounds-room-square
 bounds-room-square c = omega (arith, within c)

@@ -7,4 +7,4 @@ pub returns-then-rain : goal.returns-then-rain
 returns-then-rain c = rain_too_deep c.if-rain.true c.all_closed.ensures
 
 pub returns : goal.returns
-returns c = rain_stored c.requires c.if-rain.false c.store_all.ensures
+returns c = rain_stored c.requires c.if-rain.false (c.fill.ensures.after (λ y e. e))

@@ -7,21 +7,15 @@ use Rattle.adding.specs.Inner.Added.{rows_apart}
 use Rattle.adding.proofs.added.rows_apart.Goals as goal
 
 pub loop-j-init : goal.loop-j-init
-loop-j-init c = (omega arith, all_none _)
+loop-j-init c = all_none _
 
 pub returns-then-not-row_alone : goal.returns-then-not-row_alone
 unfolding rows_apart
-returns-then-not-row_alone c =
-    sym
-    (all_fails _ _ c.loop-j.j c.loop-j-test.true
-    (sym c.row_alone.ensures ∙ c.if-not-row_alone.true))
+returns-then-not-row_alone c = sym (all_fails _ _ c.loop-j.j (omega arith) (sym c.row_alone.ensures ∙ c.if-not-row_alone.true))
 
 pub loop-j-preserved : goal.loop-j-preserved
-loop-j-preserved c = (
-  omega arith,
-  all_more _ _ c.loop-j.invariant.1 (sym c.row_alone.ensures ∙ c.if-not-row_alone.false),
-)
+loop-j-preserved c = all_more _ _ c.loop-j.invariant (sym c.row_alone.ensures ∙ c.if-not-row_alone.false)
 
 pub returns : goal.returns
 unfolding rows_apart
-returns c = sym (all_whole _ c.loop-j.invariant.1 (omega arith))
+returns c = sym (all_whole _ c.loop-j.invariant (omega arith))

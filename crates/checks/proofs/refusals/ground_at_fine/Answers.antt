@@ -7,12 +7,9 @@ use mathlib.Core.Bool.{false}
 use Rattle.reckon.proofs.TestLaws.{every_fails}
 use Rattle.grid.specs.Marks.{closed}
 use Rattle.checks.specs.Refusals.{square_ground_fine}
-use Rattle.checks.proofs.CheckLaws.{fails_by, holds_by, or_skipped, or_decided, every_decided}
+use Rattle.checks.proofs.CheckLaws.{fails_by, holds_by, or_decided, every_decided}
 use Rattle.checks.proofs.refusals.ground_at_fine.Goals as goal
 use Rattle.checks.proofs.refusals.ground_at_fine.Goals.{Else-is_closed}
-
-pub returns-then-is_closed : goal.returns-then-is_closed
-returns-then-is_closed c = or_skipped _ (sym c.is_closed.ensures ∙ c.if-is_closed.true)
 
 -- ---- the places, each from the one after it
 

@@ -9,19 +9,16 @@ use Rattle.checks.specs.Refusals.{grounds_fine}
 use Rattle.checks.proofs.CheckLaws.{fails_by, holds_by}
 use Rattle.checks.proofs.refusals.grounds_fine.Goals as goal
 
-pub squares_of-squares-requires : goal.squares_of-squares-requires
-squares_of-squares-requires c = c.requires.0.fine
-
 pub loop-square-init : goal.loop-square-init
-loop-square-init c = (omega arith, all_none _)
+loop-square-init c = all_none _
 
 pub returns-then-not-ground_at_fine : goal.returns-then-not-ground_at_fine
 unfolding grounds_fine
 returns-then-not-ground_at_fine c = λ rules. sym (all_fails _ _ c.loop-square.square (omega arith) (fails_by c.ground_at_fine.ensures (ap not c.if-not-ground_at_fine.true)))
 
 pub loop-square-preserved : goal.loop-square-preserved
-loop-square-preserved c = (omega arith, all_more _ _ c.loop-square.invariant.1 (holds_by c.ground_at_fine.ensures (ap not c.if-not-ground_at_fine.false)))
+loop-square-preserved c = all_more _ _ c.loop-square.invariant (holds_by c.ground_at_fine.ensures (ap not c.if-not-ground_at_fine.false))
 
 pub returns : goal.returns
 unfolding grounds_fine
-returns c = λ rules. sym (all_whole _ c.loop-square.invariant.1 (omega arith))
+returns c = λ rules. sym (all_whole _ c.loop-square.invariant (omega arith))

@@ -24,9 +24,3 @@ returns-in-Rate c =
     (as_told a.depths.now a.lasts.now a.records.now a.began.now c.refuse_line.ensures)
 
 -- src/lines.rt:449:1
-pub returns-in-Unread : goal.returns-in-Unread
-unfolding entry_told
-returns-in-Unread c =
-    let a = c.args in
-    entry_as _ _ _ _ _ c.in-Unread.is
-    (as_told a.depths.now a.lasts.now a.records.now a.began.now c.refuse_line-in-Unread.ensures)

@@ -1,41 +1,41 @@
--- `desk::orders::look_order` meets its contract: the four kinds in their order.
+-- `desks::orders::look_order` meets its contract: the four kinds in their order.
 -- Assumes nothing.
-use mathlib.Core.Path.{refl, ◌∙◌}
+use mathlib.Core.Path.{refl, sym, ◌∙◌}
 use Rattle.reckon.specs.Lists.{tabulate}
 use Rattle.text.specs.Reading.{padded}
 use Rattle.desks.specs.Orders.{as_show, as_arrows, as_most, as_stand, look_order}
-use Rattle.desks.proofs.OrderLaws.{asked, not_asked}
+use Rattle.desks.proofs.OrderLaws.{asked, asked_plain, not_asked}
 use Rattle.desks.proofs.orders.look_order.Goals as goal
 
-pub returns-then-show : goal.returns-then-show
+pub returns-then-is_some : goal.returns-then-is_some
 unfolding look_order padded tabulate
-returns-then-show c = asked _ c.whole_line-show.ensures as_show _ (λ vs. refl) c.if-show.true
+returns-then-is_some c = asked_plain _ c.whole_line.ensures (sym c.if-is_some.ensures) _ _
 
-pub returns-then-arrows : goal.returns-then-arrows
+pub returns-then-is_some-2 : goal.returns-then-is_some-2
 unfolding look_order padded tabulate
-returns-then-arrows c =
-    asked _ c.whole_line-arrows.ensures as_arrows _ (λ vs. refl) c.if-arrows.true
-    ∙ (not_asked _ c.whole_line-show.ensures as_show _ c.if-show.false)
+returns-then-is_some-2 c =
+    asked_plain _ c.whole_line-2.ensures (sym c.if-is_some-2.ensures) _ _
+    ∙ not_asked _ c.whole_line.ensures (sym c.if-is_some.ensures) as_show _
 
-pub returns-then-most : goal.returns-then-most
+pub returns-in-Some : goal.returns-in-Some
 unfolding look_order padded tabulate
-returns-then-most c =
-    asked _ c.whole_line-most.ensures as_most _ (λ vs. refl) c.if-most.true
-    ∙ (not_asked _ c.whole_line-arrows.ensures as_arrows _ c.if-arrows.false
-    ∙ (not_asked _ c.whole_line-show.ensures as_show _ c.if-show.false))
+returns-in-Some c =
+    asked _ c.in-Some.ensures as_most _ (λ vs. refl)
+    ∙ (not_asked _ c.whole_line-2.ensures (sym c.if-is_some-2.ensures) as_arrows _
+    ∙ not_asked _ c.whole_line.ensures (sym c.if-is_some.ensures) as_show _)
 
-pub returns-then-stand : goal.returns-then-stand
+pub returns-then-is_some-3 : goal.returns-then-is_some-3
 unfolding look_order padded tabulate
-returns-then-stand c =
-    asked _ c.whole_line-stand.ensures as_stand _ (λ vs. refl) c.if-stand.true
-    ∙ (not_asked _ c.whole_line-most.ensures as_most _ c.if-most.false
-    ∙ (not_asked _ c.whole_line-arrows.ensures as_arrows _ c.if-arrows.false
-    ∙ (not_asked _ c.whole_line-show.ensures as_show _ c.if-show.false)))
+returns-then-is_some-3 c =
+    asked_plain _ c.whole_line-4.ensures (sym c.if-is_some-3.ensures) _ _
+    ∙ (not_asked _ c.in_default.ensures refl as_most _
+    ∙ (not_asked _ c.whole_line-2.ensures (sym c.if-is_some-2.ensures) as_arrows _
+    ∙ not_asked _ c.whole_line.ensures (sym c.if-is_some.ensures) as_show _))
 
 pub returns : goal.returns
 unfolding look_order padded tabulate
 returns c =
-    not_asked _ c.whole_line-stand.ensures as_stand _ c.if-stand.false
-    ∙ (not_asked _ c.whole_line-most.ensures as_most _ c.if-most.false
-    ∙ (not_asked _ c.whole_line-arrows.ensures as_arrows _ c.if-arrows.false
-    ∙ (not_asked _ c.whole_line-show.ensures as_show _ c.if-show.false)))
+    not_asked _ c.whole_line-4.ensures (sym c.if-is_some-3.ensures) as_stand _
+    ∙ (not_asked _ c.in_default.ensures refl as_most _
+    ∙ (not_asked _ c.whole_line-2.ensures (sym c.if-is_some-2.ensures) as_arrows _
+    ∙ not_asked _ c.whole_line.ensures (sym c.if-is_some.ensures) as_show _))

@@ -1,4 +1,4 @@
--- `desk::orders::try_order` meets its contract: the four kinds in their order, and then those that look.
+-- `desks::orders::try_order` meets its contract: the four kinds in their order, and then those that look.
 -- Assumes nothing.
 use mathlib.Core.Path.{refl, ◌∙◌}
 use Rattle.reckon.specs.Lists.{tabulate}
@@ -7,36 +7,36 @@ use Rattle.desks.specs.Orders.{as_named, as_draw, as_step, as_backs, try_order}
 use Rattle.desks.proofs.OrderLaws.{asked, not_asked}
 use Rattle.desks.proofs.orders.try_order.Goals as goal
 
-pub returns-then-hatch : goal.returns-then-hatch
+pub returns-in-Some : goal.returns-in-Some
 unfolding try_order padded tabulate
-returns-then-hatch c = asked _ c.whole_line-hatch.ensures as_named _ (λ vs. refl) c.if-hatch.true
+returns-in-Some c = asked _ c.in-Some.ensures as_named _ (λ vs. refl)
 
-pub returns-then-draw : goal.returns-then-draw
+pub returns-in-Some-whole_line : goal.returns-in-Some-whole_line
 unfolding try_order padded tabulate
-returns-then-draw c =
-    asked _ c.whole_line-draw.ensures as_draw _ (λ vs. refl) c.if-draw.true
-    ∙ (not_asked _ c.whole_line-hatch.ensures as_named _ c.if-hatch.false)
+returns-in-Some-whole_line c =
+    asked _ c.in-Some-whole_line.ensures as_draw _ (λ vs. refl)
+    ∙ (not_asked _ c.in_default.ensures refl as_named _)
 
-pub returns-then-step : goal.returns-then-step
+pub returns-in-Some-whole_line-2 : goal.returns-in-Some-whole_line-2
 unfolding try_order padded tabulate
-returns-then-step c =
-    asked _ c.whole_line-step.ensures as_step _ (λ vs. refl) c.if-step.true
-    ∙ (not_asked _ c.whole_line-draw.ensures as_draw _ c.if-draw.false
-    ∙ (not_asked _ c.whole_line-hatch.ensures as_named _ c.if-hatch.false))
+returns-in-Some-whole_line-2 c =
+    asked _ c.in-Some-whole_line-2.ensures as_step _ (λ vs. refl)
+    ∙ (not_asked _ c.in_default-whole_line.ensures refl as_draw _
+    ∙ (not_asked _ c.in_default.ensures refl as_named _))
 
-pub returns-then-back : goal.returns-then-back
+pub returns-in-Some-whole_line-3 : goal.returns-in-Some-whole_line-3
 unfolding try_order padded tabulate
-returns-then-back c =
-    asked _ c.whole_line-back.ensures as_backs _ (λ vs. refl) c.if-back.true
-    ∙ (not_asked _ c.whole_line-step.ensures as_step _ c.if-step.false
-    ∙ (not_asked _ c.whole_line-draw.ensures as_draw _ c.if-draw.false
-    ∙ (not_asked _ c.whole_line-hatch.ensures as_named _ c.if-hatch.false)))
+returns-in-Some-whole_line-3 c =
+    asked _ c.in-Some-whole_line-3.ensures as_backs _ (λ vs. refl)
+    ∙ (not_asked _ c.in_default-whole_line-2.ensures refl as_step _
+    ∙ (not_asked _ c.in_default-whole_line.ensures refl as_draw _
+    ∙ (not_asked _ c.in_default.ensures refl as_named _)))
 
 pub returns : goal.returns
 unfolding try_order padded tabulate
 returns c =
     c.look_order.ensures
-    ∙ (not_asked _ c.whole_line-back.ensures as_backs _ c.if-back.false
-    ∙ (not_asked _ c.whole_line-step.ensures as_step _ c.if-step.false
-    ∙ (not_asked _ c.whole_line-draw.ensures as_draw _ c.if-draw.false
-    ∙ (not_asked _ c.whole_line-hatch.ensures as_named _ c.if-hatch.false))))
+    ∙ (not_asked _ c.in_default-whole_line-3.ensures refl as_backs _
+    ∙ (not_asked _ c.in_default-whole_line-2.ensures refl as_step _
+    ∙ (not_asked _ c.in_default-whole_line.ensures refl as_draw _
+    ∙ (not_asked _ c.in_default.ensures refl as_named _))))

@@ -8,20 +8,17 @@ use Rattle.display.proofs.LentLaws.{back_none, back_more, back_all}
 use Rattle.display.proofs.lent.put_back.Goals as goal
 
 pub loop-i-init : goal.loop-i-init
-loop-i-init c = record { so_far = back_none c.args.held c.args.boards.now; within = omega arith }
+loop-i-init c = back_none c.args.held c.args.boards.now
 
 pub loop-i-preserved : goal.loop-i-preserved
 loop-i-preserved c =
-    let less : c.loop-i.i < length c.args.boards.now = omega arith in record {
-      so_far =
-          ap (λ (l : List Board). slice_set l c.loop-i.i c.board_at.result) c.loop-i.invariant.so_far
-          ∙ back_more c.args.held c.loop-i.i c.args.boards.now less
-          (c.board_at.ensures
-          ∙ ap (λ (l : List Board). board_at c.args.held c.loop-i.i (slice_index_or l c.loop-i.i no_board)) c.loop-i.invariant.so_far);
-      within = omega arith;
-    }
+    let less : c.loop-i.i < length c.args.boards.now = omega arith in
+    ap (λ (l : List Board). slice_set l c.loop-i.i c.board_at.result) c.loop-i.invariant
+    ∙ back_more c.args.held c.loop-i.i c.args.boards.now less
+    (c.board_at.ensures
+    ∙ ap (λ (l : List Board). board_at c.args.held c.loop-i.i (slice_index_or l c.loop-i.i no_board)) c.loop-i.invariant)
 
 pub returns : goal.returns
 returns c =
     let past : length c.args.boards.now ≤ c.loop-i.i = omega arith in
-    c.loop-i.invariant.so_far ∙ back_all c.args.held c.loop-i.i c.args.boards.now past
+    c.loop-i.invariant ∙ back_all c.args.held c.loop-i.i c.args.boards.now past

@@ -10,4 +10,4 @@ returns c =
     watched_back (plan c.args.shape c.args.marks.now)
     (given (ground c.args.rules c.args.beds.now c.args.roughness.now c.args.rates.now) c.args.rain.now c.args.inflow.now) c.args.end
     (world c.args.depths.now c.args.lasts.now c.args.records.now c.args.run) c.args.boards.now
-    c.held_of-held.ensures c.run_boards-shown.ensures c.boards_of-after.ensures c.put_back.ensures c.ran_of.ensures
+    c.held_of-held.ensures c.run_boards-shown.ensures c.put_back.ensures

@@ -1,7 +1,5 @@
 -- `display::watch::board_fine` meets its contract: a row or a column past the grid fails, then the square's mark, and then the mark's depth decides.
 -- Assumes nothing.
-use native.Mathlib.Omega.{arith}
-use Rattle.grid.proofs.SquareLaws.{square_within}
 use Rattle.display.proofs.BoardLaws.{board_no_row, board_no_column, board-closed, board_marked}
 use Rattle.display.proofs.watch.board_fine.Goals as goal
 
@@ -10,9 +8,6 @@ returns-then-shape-board c = board_no_row _ _ c.if-shape-board.true
 
 pub returns-then-shape-board-2 : goal.returns-then-shape-board-2
 returns-then-shape-board-2 c = board_no_column _ _ c.if-shape-board-2.true
-
-pub is_closed-requires : goal.is_closed-requires
-is_closed-requires c = omega (arith, c.square_at.ensures, square_within c.args.shape c.if-shape-board.false c.if-shape-board-2.false, c.requires.whole)
 
 pub returns-then-is_closed : goal.returns-then-is_closed
 returns-then-is_closed c = board-closed _ _ c.square_at.ensures c.is_closed.ensures c.if-is_closed.true

@@ -1,20 +1,8 @@
 -- `display::watch::looked` meets its contract: the depth is that of the board's square, and a first state finds the board cleared.
 -- Assumes nothing.
 use mathlib.Core.Path.{refl}
-use native.Mathlib.Omega.{arith}
-use Rattle.grid.proofs.SquareLaws.{square_within}
 use Rattle.display.proofs.BoardLaws.{looked-first, looked_later}
 use Rattle.display.proofs.watch.looked.Goals as goal
-
-pub offset_bounds-depths-square : goal.offset_bounds-depths-square
-offset_bounds-depths-square c =
-    let on = c.requires.0 in
-    omega (arith, c.square_at-square.ensures, square_within c.args.shape on.row_in on.column_in, on.fine.few)
-
-pub bounds-depths-square : goal.bounds-depths-square
-bounds-depths-square c =
-    let on = c.requires.0 in
-    omega (arith, c.square_at-square.ensures, square_within c.args.shape on.row_in on.column_in, c.requires.1)
 
 pub returns-then-starting : goal.returns-then-starting
 returns-then-starting c = looked-first _ _ _ _ _ c.square_at-square.ensures refl c.if-starting.true c.clear.ensures c.seen.ensures

@@ -1,10 +1,6 @@
-use mathlib.Core.Path.{◌≡◌}
-use Prim.Native.Nat.{◌-◌, ◌≤◌}
+use Rattle.std.proofs.Common.{◌≡◌}
 use Rattle.display.specs.Inner.Refreshed.{looked_at, first_mapped}
 use Rattle.display.proofs.watch.refresh.Given as goal
 
-abbrev pub invariant-loop-at : goal.invariant-loop-at
-invariant-loop-at l = (l.at ≤ l.count) × (l.list ≡ first_mapped (looked_at l.shape l.depths l.starting l.clock) l.at l.initial.list)
-
-abbrev pub decreases-loop-at : goal.decreases-loop-at
-decreases-loop-at l = l.count - l.at
+abbrev pub invariant-loop-board : goal.invariant-loop-board
+invariant-loop-board l = l.board-items ≡ first_mapped (looked_at l.shape l.depths l.starting l.clock) l.board-index l.initial.board-items

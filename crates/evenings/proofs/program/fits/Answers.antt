@@ -19,8 +19,5 @@ R s =
 pub returns-then-not-night_fine : goal.returns-then-not-night_fine
 returns-then-not-night_fine c = sym (fits_not c.args.night (R (goal.at.returns-then-not-night_fine c).Start) (fails_by c.night_fine.ensures (ap not c.if-not-night_fine.true)))
 
-pub sizes_of-sizes-requires : goal.sizes_of-sizes-requires
-sizes_of-sizes-requires c = holds_by c.night_fine.ensures (ap not c.if-not-night_fine.false)
-
 pub returns : goal.returns
 returns c = c.rooms_fit.ensures ∙ fits_are c.args.night (R (goal.at.returns c).Start) (holds_by c.night_fine.ensures (ap not c.if-not-night_fine.false)) c.sizes_of-sizes.ensures

@@ -16,9 +16,6 @@ P s = plan s.args.shape s.args.marks.now
 abbrev E : Start → Evening
 E s = evening s.args.depths.now s.args.lasts.now s.args.records.now s.args.began.now s.args.log
 
-pub record_size-requires : goal.record_size-requires
-record_size-requires c = c.requires.shape_in_range.0
-
 pub rates_back-litres-requires : goal.rates_back-litres-requires
 rates_back-litres-requires c =
     let k = slots_are (P (goal.at.rates_back-litres-requires c).Start) c.args.records.now c.record_size.ensures c.slots_in-slots.ensures in

@@ -70,18 +70,6 @@ rates_with-written-requires c = rate_number _ _ _ _ _ (entered (goal.at.rates_wi
 pub overflow_add-log : goal.overflow_add-log
 overflow_add-log c = omega (arith, run_few _ _ _ _ c.run_to-ran.ensures.ends, (entered (goal.at.overflow_add-log c).Start).steps_few, rate_clock _ _ _ _ _ (entered (goal.at.overflow_add-log c).Start).line)
 
-pub shape_of-depths : goal.shape_of-depths
-shape_of-depths c = c.run_to-ran.auto.depths
-
-pub shape_of-lasts : goal.shape_of-lasts
-shape_of-lasts c = c.run_to-ran.auto.lasts
-
-pub shape_of-records : goal.shape_of-records
-shape_of-records c = c.run_to-ran.auto.records
-
-pub shape_of-began : goal.shape_of-began
-shape_of-began c = c.keep_made.auto.began
-
 pub returns : goal.returns
 returns c =
     rate_done (P (goal.at.returns c).Start) (G (goal.at.returns c).Start) (E (goal.at.returns c).Start) c.args.clock c.args.number c.args.rate

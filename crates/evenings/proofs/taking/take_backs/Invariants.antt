@@ -1,12 +1,6 @@
-use mathlib.Core.Path.{◌≡◌}
-use Prim.Native.Nat.{◌-◌}
-use lib.ListN.{length}
 use Rattle.ledger.specs.Runs.{plan, world}
 use Rattle.evenings.proofs.BackLaws.{Backing}
 use Rattle.evenings.proofs.taking.take_backs.Given as goal
 
 abbrev pub invariant-loop-steps : goal.invariant-loop-steps
-invariant-loop-steps l = Backing (plan l.shape l.marks) l.most (world l.initial.depths l.initial.lasts l.records l.initial.at) (world l.depths l.lasts l.records l.at) l.steps × (length l.depths ≡ length l.initial.depths) × (length l.lasts ≡ length l.initial.lasts)
-
-abbrev pub decreases-loop-steps : goal.decreases-loop-steps
-decreases-loop-steps l = l.most - l.steps
+invariant-loop-steps l = Backing (plan l.shape l.marks) l.most (world l.initial.depths l.initial.lasts l.records l.initial.at) (world l.depths l.lasts l.records l.at) l.steps

@@ -15,7 +15,3 @@ returns-in-Rate c = ap is_shown (sym c.in-Rate.is)
 pub returns-in-Back : goal.returns-in-Back
 unfolding is_shown
 returns-in-Back c = ap is_shown (sym c.in-Back.is)
-
-pub returns-in-Unread : goal.returns-in-Unread
-unfolding is_shown
-returns-in-Unread c = ap is_shown (sym c.in-Unread.is)

@@ -21,17 +21,11 @@ P c = plan c.args.shape c.args.marks.now
 abbrev D : Start → List ℕ
 D c = c.args.depths.now
 
-pub put_refused-requires : goal.put_refused-requires
-put_refused-requires c = omega (arith, c.requires.1)
-
 pub returns-then-number-eq12 : goal.returns-then-number-eq12
 returns-then-number-eq12 c =
     λ lasts records began. shown_line (P (goal.at.returns-then-number-eq12 c).Start) c.args.entry c.args.line (evening (D (goal.at.returns-then-number-eq12 c).Start) lasts records began c.args.log)
     c.if-number-eq12.true
     (refused_printed c.requires.1 (omega arith) (omega arith) c.put_refused.ensures)
-
-pub put_refused-requires-then-number-ne0 : goal.put_refused-requires-then-number-ne0
-put_refused-requires-then-number-ne0 c = omega (arith, c.requires.1)
 
 pub returns-then-number-ne0 : goal.returns-then-number-ne0
 returns-then-number-ne0 c =

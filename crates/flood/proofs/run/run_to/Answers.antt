@@ -10,8 +10,6 @@ use Rattle.flood.proofs.RunToLaws.{run_checked, run_passed}
 use Rattle.flood.proofs.run.run_to.Goals as goal
 use Rattle.flood.proofs.run.run_to.Goals.{Else-number-ne0, Start}
 
--- ---- the places, each by the one before it
-
 -- ---- what is known there
 
 abbrev p : Start → Plan
@@ -31,16 +29,17 @@ passed c = sym (c.check-number.ensures c.args.records.now refl) ∙ c.if-number-
 pub returns-then-number-ne0 : goal.returns-then-number-ne0
 returns-then-number-ne0 c = record { ends = run_checked (p (goal.at.returns-then-number-ne0 c).Start) (g (goal.at.returns-then-number-ne0 c).Start) c.args.end (w (goal.at.returns-then-number-ne0 c).Start) (c.check-number.ensures c.args.records.now refl) c.if-number-ne0.true }
 
-pub run_on-requires : goal.run_on-requires
-run_on-requires c =
-    let e = passed (goal.at.run_on-requires c).Else-number-ne0 in record {
-      passes = record { checked = run_checks_step (p (goal.at.run_on-requires c).Start) (g (goal.at.run_on-requires c).Start) c.args.end (w (goal.at.run_on-requires c).Start) e };
-      apart_value = (c.rows_apart.ensures, (end_is c.args.rules c.args.end (run_checks_end (p (goal.at.run_on-requires c).Start) (g (goal.at.run_on-requires c).Start) c.args.end (w (goal.at.run_on-requires c).Start) e)).0);
+pub run_kept-requires : goal.run_kept-requires
+run_kept-requires c =
+    let e = passed (goal.at.run_kept-requires c).Else-number-ne0 in record {
+      passes = record { checked = run_checks_step (p (goal.at.run_kept-requires c).Start) (g (goal.at.run_kept-requires c).Start) c.args.end (w (goal.at.run_kept-requires c).Start) e };
+      apart_value = (c.rows_apart.ensures, (end_is c.args.rules c.args.end (run_checks_end (p (goal.at.run_kept-requires c).Start) (g (goal.at.run_kept-requires c).Start) c.args.end (w (goal.at.run_kept-requires c).Start) e)).0);
+      kept_fits = tt;
     }
 
 pub returns : goal.returns
 returns c = record {
   ends =
       run_passed (p (goal.at.returns c).Start) (g (goal.at.returns c).Start) c.args.end (w (goal.at.returns c).Start) (c.check-number.ensures c.args.records.now refl) c.if-number-ne0.false
-      c.run_on.ensures.ends;
+      c.run_kept.ensures.ends;
 }

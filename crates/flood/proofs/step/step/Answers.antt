@@ -11,8 +11,6 @@ use Rattle.flood.proofs.StepLaws.{passed_fine, part_long, parts_lent, step_check
 use Rattle.flood.proofs.step.step.Goals as goal
 use Rattle.flood.proofs.step.step.Goals.{After-squares_of-squares, Else-number-ne0, Start}
 
--- ---- the places, each by the one before it
-
 -- ---- what is known there
 
 abbrev p : Start → Plan

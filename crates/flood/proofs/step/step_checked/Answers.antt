@@ -3,11 +3,9 @@
 use mathlib.Core.Path.{refl}
 use Rattle.ledger.specs.Runs.{Plan, World, plan, world}
 use Rattle.checks.specs.Given.{Given, ground, given}
-use Rattle.flood.proofs.StepLaws.{known_checks, step_checked, passes_checks, step-refused, step_done}
+use Rattle.flood.proofs.StepLaws.{known_checks, step_checked, step-refused, step_done}
 use Rattle.flood.proofs.step.step_checked.Goals as goal
 use Rattle.flood.proofs.step.step_checked.Goals.{Start}
-
--- ---- the places, each by the one before it
 
 -- ---- what is known there
 
@@ -27,12 +25,6 @@ first_number-number-requires c = λ y. known_checks (p (goal.at.first_number-num
 
 pub returns-then-number-ne0 : goal.returns-then-number-ne0
 returns-then-number-ne0 c = step_checked (p (goal.at.returns-then-number-ne0 c).Start) (g (goal.at.returns-then-number-ne0 c).Start) (w (goal.at.returns-then-number-ne0 c).Start) (c.first_number-number.ensures c.args.records.now refl) c.if-number-ne0.true
-
-pub step_on-made-requires : goal.step_on-made-requires
-step_on-made-requires c = record {
-  passes = passes_checks (p (goal.at.step_on-made-requires c).Start) (g (goal.at.step_on-made-requires c).Start) (w (goal.at.step_on-made-requires c).Start) (c.first_number-number.ensures c.args.records.now refl) c.if-number-ne0.false;
-  rooms_lent = c.requires.rooms_lent;
-}
 
 pub returns-then-refused-ne0 : goal.returns-then-refused-ne0
 returns-then-refused-ne0 c = step-refused (p (goal.at.returns-then-refused-ne0 c).Start) (g (goal.at.returns-then-refused-ne0 c).Start) (w (goal.at.returns-then-refused-ne0 c).Start) c.step_on-made.ensures c.if-refused-ne0.true

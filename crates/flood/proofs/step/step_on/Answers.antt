@@ -23,8 +23,6 @@ use Rattle.flood.proofs.StepLaws.{is_ready, step_seven, step_eight, settles, roo
 use Rattle.flood.proofs.step.step_on.Goals as goal
 use Rattle.flood.proofs.step.step_on.Goals.{After-add_water, After-duration_for-duration, After-surely_settles-sure, Else-end-gt-LAST_CLOCK, Start}
 
--- ---- the places, each by the one before it
-
 -- ---- what is known there
 
 abbrev p : Start → Plan
@@ -138,9 +136,6 @@ settle_in_slot-requires c =
       record { left_long = rooms.left_long; worked_long = rooms.worked_long; senders_long = rooms.senders_long; room_long = room_long (goal.at.settle_in_slot-requires c).After-add_water },
     )
 
-pub shape_of-room-then-sure : goal.shape_of-room-then-sure
-shape_of-room-then-sure c = c.settle_in_slot.auto.room ∙ c.add_water.auto.room
-
 pub returns-then-sure : goal.returns-then-sure
 returns-then-sure c =
     step-settled (p (goal.at.returns-then-sure c).Start) (g (goal.at.returns-then-sure c).Start) (w (goal.at.returns-then-sure c).Start) c.requires.passes.checked (in-time (goal.at.returns-then-sure c).Else-end-gt-LAST_CLOCK) (record_is (goal.at.returns-then-sure c).After-surely_settles-sure) (length_is (goal.at.returns-then-sure c).After-duration_for-duration)
@@ -154,9 +149,6 @@ settle_or_put_back-requires c =
       decides (goal.at.settle_or_put_back-requires c).After-surely_settles-sure,
       record { left_long = rooms.left_long; worked_long = rooms.worked_long; senders_long = rooms.senders_long; room_long = room_long (goal.at.settle_or_put_back-requires c).After-add_water },
     )
-
-pub shape_of-room : goal.shape_of-room
-shape_of-room c = c.settle_or_put_back.auto.room ∙ c.add_water.auto.room
 
 pub returns : goal.returns
 returns c =

@@ -1,4 +1,3 @@
-use Prim.Native.Nat.{◌-◌, ◌≤◌}
 use Rattle.reckon.specs.Lists.{joined}
 use Rattle.sight.specs.AllArrows.{sights}
 use Rattle.text.specs.Writing.{Wrote}
@@ -6,7 +5,4 @@ use Rattle.frames.specs.Arrows.{arrow_text}
 use Rattle.frames.proofs.arrows.put_arrows.Given as goal
 
 abbrev pub invariant-loop-square : goal.invariant-loop-square
-invariant-loop-square l = (l.square ≤ l.squares) × Wrote (joined l.square (arrow_text l.shape (sights l.kinds l.east l.north))) l.at l.initial.out l.out l.next
-
-abbrev pub decreases-loop-square : goal.decreases-loop-square
-decreases-loop-square l = l.squares - l.square
+invariant-loop-square l = Wrote (joined l.square (arrow_text l.shape (sights l.kinds l.east l.north))) l.at l.initial.out l.out l.next

@@ -1,11 +1,8 @@
-use Prim.Native.Nat.{◌+◌, ◌-◌, ◌≤◌}
+use Prim.Native.Nat.{◌+◌}
 use Rattle.reckon.specs.Lists.{joined}
 use Rattle.text.specs.Writing.{Wrote}
 use Rattle.frames.specs.Frame.{square_text}
 use Rattle.frames.proofs.frame.put_squares.Given as goal
 
 abbrev pub invariant-loop-column : goal.invariant-loop-column
-invariant-loop-column l = (l.column ≤ l.columns) × Wrote (joined l.column (λ c. square_text l.marks l.depths (l.first + c))) l.at l.initial.out l.out l.next
-
-abbrev pub decreases-loop-column : goal.decreases-loop-column
-decreases-loop-column l = l.columns - l.column
+invariant-loop-column l = Wrote (joined l.column (λ c. square_text l.marks l.depths (l.first + c))) l.at l.initial.out l.out l.next

@@ -7,7 +7,7 @@ use Rattle.grid.specs.Marks.{inflow_squares_fine}
 use Rattle.grid.proofs.marks.inflow_squares_fine.Goals as goal
 
 pub loop-j-init : goal.loop-j-init
-loop-j-init c = (omega arith, all_none _)
+loop-j-init c = all_none _
 
 pub returns-then-not-inflow_square_fine : goal.returns-then-not-inflow_square_fine
 unfolding inflow_squares_fine
@@ -17,11 +17,8 @@ returns-then-not-inflow_square_fine c =
     (sym c.inflow_square_fine.ensures ∙ c.if-not-inflow_square_fine.true))
 
 pub loop-j-preserved : goal.loop-j-preserved
-loop-j-preserved c = (
-  omega arith,
-  all_more _ _ c.loop-j.invariant.1 (sym c.inflow_square_fine.ensures ∙ c.if-not-inflow_square_fine.false),
-)
+loop-j-preserved c = all_more _ _ c.loop-j.invariant (sym c.inflow_square_fine.ensures ∙ c.if-not-inflow_square_fine.false)
 
 pub returns : goal.returns
 unfolding inflow_squares_fine
-returns c = sym (all_whole _ c.loop-j.invariant.1 (omega arith))
+returns c = sym (all_whole _ c.loop-j.invariant (omega arith))

@@ -5,36 +5,30 @@ use native.Mathlib.Nat.{zero-mod}
 use native.Mathlib.Omega.{arith}
 use Rattle.reckon.proofs.TestLaws.{all_none, all_more, all_fails, all_whole}
 use Rattle.grid.specs.Marks.{marks_fine}
-use Rattle.grid.proofs.SquareLaws.{carried, column-within}
+use Rattle.grid.proofs.SquareLaws.{carried}
 use Rattle.grid.proofs.marks.marks_fine.Goals as goal
 
 pub loop-square-init : goal.loop-square-init
-loop-square-init c = (omega arith, sym (zero-mod _), all_none _)
+loop-square-init c = record { carried = sym (zero-mod _); passed = all_none _ }
 
 pub returns-then-not-mark_fine : goal.returns-then-not-mark_fine
 unfolding marks_fine
 returns-then-not-mark_fine c =
     let l = c.loop-square in
     sym
-    (all_fails _ _ l.square (omega (arith, c.squares_of-squares.ensures))
+    (all_fails _ _ l.square (omega (arith, c.squares_of-square-end.ensures))
     (sym c.mark_fine.ensures ∙ c.if-not-mark_fine.true))
-
-pub next_column-column-requires : goal.next_column-column-requires
-next_column-column-requires c =
-    let l = c.loop-square in
-    (c.requires.fine, column-within c.args.shape l.square c.requires.fine.columns_low l.invariant.1)
 
 pub loop-square-preserved : goal.loop-square-preserved
 loop-square-preserved c =
     let l = c.loop-square in
-    let shape = c.args.shape in (
-      omega arith,
-      carried shape l.square l.invariant.1 c.next_column-column.ensures,
-      all_more _ _ l.invariant.2 (sym c.mark_fine.ensures ∙ c.if-not-mark_fine.false),
-    )
+    record {
+      carried = carried c.args.shape l.square l.invariant.carried c.next_column-column.ensures;
+      passed = all_more _ _ l.invariant.passed (sym c.mark_fine.ensures ∙ c.if-not-mark_fine.false);
+    }
 
 pub returns : goal.returns
 unfolding marks_fine
 returns c =
     let l = c.loop-square in
-    sym (all_whole _ l.invariant.2 (omega (arith, c.squares_of-squares.ensures)))
+    sym (all_whole _ l.invariant.passed (omega (arith, c.squares_of-square-end.ensures)))

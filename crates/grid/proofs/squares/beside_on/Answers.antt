@@ -2,7 +2,7 @@
 -- Assumes nothing.
 use mathlib.Core.Path.{sym, ◌∙◌}
 use native.Mathlib.Omega.{arith}
-use Rattle.grid.proofs.SquareLaws.{column_small, at_last, before_last, at_first, after_first, west_in, north_some, north_none, east_some, east_none, south_some, south_none, west_some, west_none}
+use Rattle.grid.proofs.SquareLaws.{at_last, before_last, at_first, after_first, north_some, north_none, east_some, east_none, south_some, south_none, west_some, west_none}
 use Rattle.grid.proofs.squares.beside_on.Goals as goal
 
 pub returns-then-columns-square : goal.returns-then-columns-square
@@ -10,9 +10,6 @@ returns-then-columns-square c = sym (north_some _ _ c.if-side-eq-NORTH.true c.if
 
 pub returns-then-side-eq-NORTH : goal.returns-then-side-eq-NORTH
 returns-then-side-eq-NORTH c = c.squares_of-none.ensures ∙ sym (north_none _ _ c.if-side-eq-NORTH.true c.if-columns-square.false)
-
-pub overflow_add-column : goal.overflow_add-column
-overflow_add-column c = omega (arith, column_small _ c.requires.0)
 
 pub returns-then-column-columns : goal.returns-then-column-columns
 returns-then-column-columns c = c.squares_of-none.ensures ∙ sym (east_none _ _ c.if-side-eq-EAST.true (at_last _ c.requires.0 c.if-column-columns.true))
@@ -28,9 +25,6 @@ returns-then-side-eq-SOUTH c = c.squares_of-none.ensures ∙ sym (south_none _ _
 
 pub returns-then-column-eq0 : goal.returns-then-column-eq0
 returns-then-column-eq0 c = c.squares_of-none.ensures ∙ sym (west_none _ _ (omega arith) (at_first _ c.requires.0 c.if-column-eq0.true))
-
-pub overflow_sub-result-2 : goal.overflow_sub-result-2
-overflow_sub-result-2 c = west_in c.args.shape _ (after_first _ c.requires.0 c.if-column-eq0.false)
 
 pub returns : goal.returns
 returns c = sym (west_some _ _ (omega arith) (after_first _ c.requires.0 c.if-column-eq0.false))

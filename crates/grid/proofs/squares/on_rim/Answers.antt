@@ -3,14 +3,11 @@
 use mathlib.Core.Path.{refl}
 use native.Mathlib.Omega.{arith}
 use Rattle.grid.specs.Squares.{north, east, south, west}
-use Rattle.grid.proofs.SquareLaws.{column_small, at_last, before_last, at_first, after_first, north_none, east_none, south_none, west_none, on_the_rim, off_the_rim, inner}
+use Rattle.grid.proofs.SquareLaws.{at_last, before_last, at_first, after_first, north_none, east_none, south_none, west_none, on_the_rim, off_the_rim, inner}
 use Rattle.grid.proofs.squares.on_rim.Goals as goal
 
 pub returns-then-square-columns : goal.returns-then-square-columns
 returns-then-square-columns c = on_the_rim _ _ {side = north} (omega arith) (north_none _ _ refl c.if-square-columns.true)
-
-pub overflow_add-column : goal.overflow_add-column
-overflow_add-column c = omega (arith, column_small _ c.requires)
 
 pub returns-then-column-columns : goal.returns-then-column-columns
 returns-then-column-columns c = on_the_rim _ _ {side = east} (omega arith) (east_none _ _ refl (at_last _ c.requires c.if-column-columns.true))

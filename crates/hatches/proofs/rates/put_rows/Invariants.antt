@@ -1,11 +1,7 @@
-use Prim.Native.Nat.{◌-◌, ◌≤◌}
 use Rattle.reckon.specs.Lists.{joined}
 use Rattle.text.specs.Writing.{Wrote}
-use Rattle.hatches.specs.Log.{most_hatches, hatch_row}
+use Rattle.hatches.specs.Log.{hatch_row}
 use Rattle.hatches.proofs.rates.put_rows.Given as goal
 
 abbrev pub invariant-loop-hatch : goal.invariant-loop-hatch
-invariant-loop-hatch l = (l.hatch ≤ most_hatches) × Wrote (joined l.hatch (hatch_row l.hatches l.litres)) l.at l.initial.table l.table l.next
-
-abbrev pub decreases-loop-hatch : goal.decreases-loop-hatch
-decreases-loop-hatch l = most_hatches - l.hatch
+invariant-loop-hatch l = Wrote (joined l.hatch (hatch_row l.hatches l.litres)) l.at l.initial.table l.table l.next

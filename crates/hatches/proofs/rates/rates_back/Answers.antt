@@ -12,9 +12,6 @@ pub returns-then-steps-eq0 : goal.returns-then-steps-eq0
 unfolding rates_back
 returns-then-steps-eq0 c = sym (ap (rates_back c.args.slots c.args.began.now c.args.log) c.if-steps-eq0.true)
 
-pub slot_ago-requires : goal.slot_ago-requires
-slot_ago-requires c = c.requires.0 (omega (arith, c.if-steps-eq0.false))
-
 pub rates_in-requires : goal.rates_in-requires
 rates_in-requires c = omega (arith, c.slot_ago.ensures, ago_below c.args.slots (c.args.steps - 1) c.args.log.run.newest (c.requires.0 (omega (arith, c.if-steps-eq0.false))), c.requires.1)
 

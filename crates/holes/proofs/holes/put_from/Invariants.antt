@@ -1,5 +1,4 @@
 use mathlib.Core.Path.{◌≡◌}
-use Prim.Native.Nat.{◌-◌, ◌≤◌}
 use Rattle.reckon.specs.Lists.{joined}
 use Rattle.text.specs.Writing.{Wrote}
 use Rattle.holes.specs.Holes.{start_of}
@@ -7,7 +6,4 @@ use Rattle.holes.specs.Inner.Steps.{line_put}
 use Rattle.holes.proofs.holes.put_from.Given as goal
 
 abbrev pub invariant-loop-square : goal.invariant-loop-square
-invariant-loop-square l = (l.square ≤ l.squares) × (l.start ≡ start_of l.text l.square) × Wrote (joined l.square (line_put l.text l.beds)) l.at l.initial.out l.out l.next
-
-abbrev pub decreases-loop-square : goal.decreases-loop-square
-decreases-loop-square l = l.squares - l.square
+invariant-loop-square l = (l.start ≡ start_of l.text l.square) × Wrote (joined l.square (line_put l.text l.beds)) l.at l.initial.out l.out l.next

@@ -42,29 +42,29 @@ returns-in_default c =
 pub slice_bounds-put_word-count-2 : goal.slice_bounds-put_word-count-2
 slice_bounds-put_word-count-2 c =
     let a = c.args in
-    let t = told_at a.text.now a.start a.row a.column (sym c.in-At.is ∙ c.hole_at.ensures) in
+    let t = told_at a.text.now a.start a.row a.column (sym c.in-Some.is ∙ c.hole_at.ensures) in
     let k = hole_spot a.text.now a.start a.row a.column t.0 in
     omega (arith, t.1, k.before, k.inside, k.after, c.next_line-end.ensures, next-within a.text.now a.start c.requires.start_in_bounds)
 
 pub slice_bounds-put_word-start-2 : goal.slice_bounds-put_word-start-2
 slice_bounds-put_word-start-2 c =
     let a = c.args in
-    let t = told_at a.text.now a.start a.row a.column (sym c.in-At.is ∙ c.hole_at.ensures) in
+    let t = told_at a.text.now a.start a.row a.column (sym c.in-Some.is ∙ c.hole_at.ensures) in
     let k = hole_spot a.text.now a.start a.row a.column t.0 in
     omega (arith, t.1, k.before, k.inside, k.after, c.next_line-end.ensures, next-within a.text.now a.start c.requires.start_in_bounds)
 
 pub slice_bounds-put_word-end-2 : goal.slice_bounds-put_word-end-2
 slice_bounds-put_word-end-2 c =
     let a = c.args in
-    let t = told_at a.text.now a.start a.row a.column (sym c.in-At.is ∙ c.hole_at.ensures) in
+    let t = told_at a.text.now a.start a.row a.column (sym c.in-Some.is ∙ c.hole_at.ensures) in
     let k = hole_spot a.text.now a.start a.row a.column t.0 in
     omega (arith, t.1, k.before, k.inside, k.after, c.next_line-end.ensures, next-within a.text.now a.start c.requires.start_in_bounds)
 
 pub put_word-before-requires : goal.put_word-before-requires
 put_word-before-requires c =
     let a = c.args in
-    let spot = c.in-At.spot in
-    let t = told_at a.text.now a.start a.row a.column (sym c.in-At.is ∙ c.hole_at.ensures) in
+    let spot = c.in-Some.spot in
+    let t = told_at a.text.now a.start a.row a.column (sym c.in-Some.is ∙ c.hole_at.ensures) in
     first_fits (between a.text.now a.start spot) (bed_text a.bed) (between a.text.now (spot + 1) c.next_line-end.result)
     (line_parts a.text.now a.start a.row a.column (bed_text a.bed) t.0 t.1 c.next_line-end.ensures) a.at a.out.now
     c.requires.bed_in_bounds
@@ -72,8 +72,8 @@ put_word-before-requires c =
 pub put_bed-next-requires : goal.put_bed-next-requires
 put_bed-next-requires c =
     let a = c.args in
-    let spot = c.in-At.spot in
-    let t = told_at a.text.now a.start a.row a.column (sym c.in-At.is ∙ c.hole_at.ensures) in
+    let spot = c.in-Some.spot in
+    let t = told_at a.text.now a.start a.row a.column (sym c.in-Some.is ∙ c.hole_at.ensures) in
     second_fits (between a.text.now a.start spot) (bed_text a.bed) (between a.text.now (spot + 1) c.next_line-end.result)
     (line_parts a.text.now a.start a.row a.column (bed_text a.bed) t.0 t.1 c.next_line-end.ensures) a.at a.out.now
     c.requires.bed_in_bounds c.put_word-before.ensures
@@ -83,7 +83,7 @@ overflow_add-rest c =
     let at-next-line = c.next_line-end in
     let at-hole-at = c.hole_at in
     let a = c.args in
-    let t = told_at a.text.now a.start a.row a.column (sym c.in-At.is ∙ at-hole-at.ensures) in
+    let t = told_at a.text.now a.start a.row a.column (sym c.in-Some.is ∙ at-hole-at.ensures) in
     let k = hole_spot a.text.now a.start a.row a.column t.0 in
     omega (arith, t.1, k.before, k.inside, k.after, at-next-line.ensures, next-within a.text.now a.start c.requires.start_in_bounds)
 
@@ -92,7 +92,7 @@ slice_bounds-put_word-count-3 c =
     let at-next-line = c.next_line-end in
     let at-hole-at = c.hole_at in
     let a = c.args in
-    let t = told_at a.text.now a.start a.row a.column (sym c.in-At.is ∙ at-hole-at.ensures) in
+    let t = told_at a.text.now a.start a.row a.column (sym c.in-Some.is ∙ at-hole-at.ensures) in
     let k = hole_spot a.text.now a.start a.row a.column t.0 in
     omega (arith, t.1, k.before, k.inside, k.after, at-next-line.ensures, next-within a.text.now a.start c.requires.start_in_bounds)
 
@@ -101,7 +101,7 @@ slice_bounds-put_word-start-3 c =
     let at-next-line = c.next_line-end in
     let at-hole-at = c.hole_at in
     let a = c.args in
-    let t = told_at a.text.now a.start a.row a.column (sym c.in-At.is ∙ at-hole-at.ensures) in
+    let t = told_at a.text.now a.start a.row a.column (sym c.in-Some.is ∙ at-hole-at.ensures) in
     let k = hole_spot a.text.now a.start a.row a.column t.0 in
     omega (arith, t.1, k.before, k.inside, k.after, at-next-line.ensures, next-within a.text.now a.start c.requires.start_in_bounds)
 
@@ -110,7 +110,7 @@ slice_bounds-put_word-end-3 c =
     let at-next-line = c.next_line-end in
     let at-hole-at = c.hole_at in
     let a = c.args in
-    let t = told_at a.text.now a.start a.row a.column (sym c.in-At.is ∙ at-hole-at.ensures) in
+    let t = told_at a.text.now a.start a.row a.column (sym c.in-Some.is ∙ at-hole-at.ensures) in
     let k = hole_spot a.text.now a.start a.row a.column t.0 in
     omega (arith, t.1, k.before, k.inside, k.after, at-next-line.ensures, next-within a.text.now a.start c.requires.start_in_bounds)
 
@@ -121,8 +121,8 @@ put_word-requires-2 c =
     let at-hole-at = c.hole_at in
     let at-put-word2 = c.put_word-before in
     let a = c.args in
-    let spot = c.in-At.spot in
-    let t = told_at a.text.now a.start a.row a.column (sym c.in-At.is ∙ at-hole-at.ensures) in
+    let spot = c.in-Some.spot in
+    let t = told_at a.text.now a.start a.row a.column (sym c.in-Some.is ∙ at-hole-at.ensures) in
     third_fits (between a.text.now a.start spot) (bed_text a.bed) (between a.text.now (spot + 1) at-next-line.result)
     (line_parts a.text.now a.start a.row a.column (bed_text a.bed) t.0 t.1 at-next-line.ensures) a.at a.out.now
     c.requires.bed_in_bounds at-put-word2.ensures c.put_bed-next.ensures
@@ -136,8 +136,8 @@ returns c =
     let at-put-word2 = c.put_word-before in
     let at-put-bed = c.put_bed-next in
     let a = c.args in
-    let spot = c.in-At.spot in
-    let t = told_at a.text.now a.start a.row a.column (sym c.in-At.is ∙ at-hole-at.ensures) in
+    let spot = c.in-Some.spot in
+    let t = told_at a.text.now a.start a.row a.column (sym c.in-Some.is ∙ at-hole-at.ensures) in
     three_put (between a.text.now a.start spot) (bed_text a.bed) (between a.text.now (spot + 1) at-next-line.result)
     (line_parts a.text.now a.start a.row a.column (bed_text a.bed) t.0 t.1 at-next-line.ensures) a.at a.out.now
     c.requires.bed_in_bounds at-put-word2.ensures at-put-bed.ensures c.put_word-2.ensures

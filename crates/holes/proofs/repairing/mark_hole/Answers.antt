@@ -19,4 +19,4 @@ returns c =
     sym
     (pick_false _ _
     (ap not
-    (told_at a.text.now a.start a.row a.column (sym c.in-At.is ∙ c.hole_at.ensures)).0))
+    (told_at a.text.now a.start a.row a.column (sym c.in-Some.is ∙ c.hole_at.ensures)).0))

@@ -22,7 +22,7 @@ put_given-requires c =
       c.requires,
       ap length
           (a-line a.text.now a.start a.row a.column a.bed a.turn
-          (told_at a.text.now a.start a.row a.column (sym c.in-At.is ∙ c.hole_at.ensures)).0),
+          (told_at a.text.now a.start a.row a.column (sym c.in-Some.is ∙ c.hole_at.ensures)).0),
     )
 
 pub returns : goal.returns
@@ -30,5 +30,5 @@ returns c =
     let a = c.args in
     written_as
     (a-line a.text.now a.start a.row a.column a.bed a.turn
-    (told_at a.text.now a.start a.row a.column (sym c.in-At.is ∙ c.hole_at.ensures)).0)
+    (told_at a.text.now a.start a.row a.column (sym c.in-Some.is ∙ c.hole_at.ensures)).0)
     c.put_given.ensures

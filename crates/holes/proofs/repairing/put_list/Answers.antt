@@ -4,7 +4,7 @@ use mathlib.Core.Path.{sym, ap, ◌∙◌}
 use native.Mathlib.Omega.{arith}
 use lib.ListN.{length}
 use Rattle.text.proofs.WritingLaws.{written_as}
-use Rattle.text.proofs.JoinedLaws.{none_written, lines_length, line_fits, line_written, lines_whole}
+use Rattle.text.proofs.JoinedLaws.{none_written, line_fits, line_written, lines_whole}
 use Rattle.holes.specs.Holes.{looked_at}
 use Rattle.holes.specs.Inner.Steps.{listed_line}
 use Rattle.holes.proofs.HoleLaws.{start_zero}
@@ -12,13 +12,7 @@ use Rattle.holes.proofs.PutLaws.{columns_some, line_in, line_on, listed_as, all_
 use Rattle.holes.proofs.repairing.put_list.Goals as goal
 
 pub loop-square-init : goal.loop-square-init
-loop-square-init c = (omega arith, c.cells_at-start.ensures ∙ sym (start_zero _), none_written _ _ _)
-
-pub number-bed-requires : goal.number-bed-requires
-number-bed-requires c = omega (arith, c.loop-square-test.true, c.requires.looked.1)
-
-pub number-turn-requires : goal.number-turn-requires
-number-turn-requires c = omega (arith, c.loop-square-test.true, c.requires.looked.2)
+loop-square-init c = (c.cells_at-start.ensures ∙ sym (start_zero _), none_written _ _ _)
 
 pub nonzero_div-square : goal.nonzero_div-square
 nonzero_div-square c = omega (arith, columns_some c.requires.looked.0 c.loop-square-test.true)
@@ -34,21 +28,15 @@ put_hole-next-requires c =
     omega (
       arith,
       line_fits (listed_line a.text.now a.beds.now a.turns.now) (looked_at a.text.now) a.at a.out.now c.requires.turns_in_bounds
-          l.square l.invariant.2 (omega (arith, c.loop-square-test.true, look.squares_are)),
+          l.square l.invariant.1 (omega (arith, c.loop-square-test.true, look.squares_are)),
       ap length
-          (listed_as look l.square l.invariant.1 a.beds.now a.turns.now c.number-bed.ensures c.number-turn.ensures),
+          (listed_as look l.square l.invariant.0 a.beds.now a.turns.now c.number-bed.ensures c.number-turn.ensures),
     )
 
 pub next_line-start-requires : goal.next_line-start-requires
 next_line-start-requires c =
     let at-loop = c.loop-square in
-    line_in c.requires.looked.0 at-loop.square at-loop.invariant.1
-
-pub overflow_add-square : goal.overflow_add-square
-overflow_add-square c = omega (arith, c.loop-square-test.true)
-
-pub loop-square-smaller : goal.loop-square-smaller
-loop-square-smaller c = omega (arith, c.loop-square-test.true)
+    line_in c.requires.looked.0 at-loop.square at-loop.invariant.0
 
 pub loop-square-preserved : goal.loop-square-preserved
 loop-square-preserved c =
@@ -59,22 +47,14 @@ loop-square-preserved c =
     let a = c.args in
     let l = at-loop in
     let look = c.requires.looked.0 in (
-      omega (arith, at-loop-test.true),
-      line_on look l.square l.invariant.1 c.next_line-start.ensures,
+      line_on look l.square l.invariant.0 c.next_line-start.ensures,
       line_written (listed_line a.text.now a.beds.now a.turns.now) (looked_at a.text.now) a.at a.out.now c.requires.turns_in_bounds
-          l.square l.invariant.2 (omega (arith, at-loop-test.true, look.squares_are))
-          (written_as (listed_as look l.square l.invariant.1 a.beds.now a.turns.now at-number.ensures at-number2.ensures) c.put_hole-next.ensures),
+          l.square l.invariant.1 (omega (arith, at-loop-test.true, look.squares_are))
+          (written_as (listed_as look l.square l.invariant.0 a.beds.now a.turns.now at-number.ensures at-number2.ensures) c.put_hole-next.ensures),
     )
-
-pub shape_of-out : goal.shape_of-out
-shape_of-out c =
-    let a = c.args in
-    let l = c.loop-square in
-    lines_length (listed_line a.text.now a.beds.now a.turns.now) (looked_at a.text.now) a.at a.out.now c.requires.turns_in_bounds
-    l.square l.invariant.2 (omega (arith, l.invariant.0, c.requires.looked.0.squares_are))
 
 pub returns : goal.returns
 returns c =
     let a = c.args in
     let l = c.loop-square in
-    lines_whole (listed_line a.text.now a.beds.now a.turns.now) (all_lines c.requires.looked.0 (omega (arith, l.invariant.0, c.loop-square-test.false))) l.invariant.2
+    lines_whole (listed_line a.text.now a.beds.now a.turns.now) (all_lines c.requires.looked.0 (omega (arith, c.loop-square-test.false))) l.invariant.1

@@ -6,7 +6,10 @@ use Prim.Native.Nat.{ℕ, ◌≤◌}
 use native.Mathlib.Omega.{arith}
 use lib.ListN.{length}
 use lib.Seq.{length-take-le}
-use Rattle.sheet.specs.Sheet.{Rooms, rooms, line_one}
+use Rattle.sheet.specs.Sheet.{Rooms, rooms, grid_or}
+use Rattle.std.proofs.Common.{Option}
+use Rattle.grid.specs.declared.squares.Shape.{Shape}
+use Rattle.sheet.specs.Lines.{grid_line}
 use Rattle.sheet.specs.declared.lines.GridLine.{GridLine}
 use Rattle.sheet.specs.declared.reading.Sheet.{Sheet}
 use Rattle.programs.specs.Program.{most_text, program_squares, program_rooms}
@@ -42,7 +45,7 @@ count c =
     at-looked-in.ensures ∙ ap looked_in at-grid-line.ensures
 
 few : (c : After-read_within-sheet) → c.looked_in-squares.result ≤ program_squares
-few c = omega (arith, count c, looked_few (line_one c.args.text.now))
+few c = omega (arith, count c, looked_few (grid_line c.args.text.now))
 
 pub returns-then-text-gt-MOST_TEXT : goal.returns-then-text-gt-MOST_TEXT
 returns-then-text-gt-MOST_TEXT c = repair_long c.args.text.now c.if-text-gt-MOST_TEXT.true (omega arith) c.put_refused.ensures
@@ -52,7 +55,7 @@ put_with_beds-length-requires c =
     let s = c.args.text.now in record {
       looked = (
         record {
-          columns_are = ap (λ (g : GridLine). g.shape.columns) c.grid_line-top.ensures;
+          columns_are = ap (λ (g : Shape). g.columns) (c.shape_in-shape.ensures ∙ ap (λ (g : Option GridLine). (grid_or g).shape) c.grid_line-top.ensures);
           squares_are = c.looked_in-squares.ensures ∙ ap looked_in c.grid_line-top.ensures;
         },
         omega (arith, c.looked_in-squares.ensures, looked_few c.grid_line-top.result),
@@ -99,7 +102,7 @@ put_repaired-requires c =
     let s = c.args.text.now in
     let short : length s ≤ most_text = omega (arith, at-if1.false) in (
       repairable s short (reads (goal.at.put_repaired-requires c).After-read_within-sheet c.in-Read.is) (count (goal.at.put_repaired-requires c).After-read_within-sheet)
-          (ap (λ (g : GridLine). g.shape) at-grid-line.ensures),
+          (c.shape_in-shape.ensures ∙ ap (λ (g : Option GridLine). (grid_or g).shape) at-grid-line.ensures),
       omega arith,
     )
 

@@ -6,8 +6,6 @@ use Rattle.holes.proofs.rounds.lowest_beside.Goals as goal
 pub returns : goal.returns
 returns c =
     let a = c.args in
-    let at-bed-beside = c.bed_beside-north in
-    let at-bed-beside2 = c.bed_beside-east in
-    lowest_of a.shape a.marks.now a.beds.now a.square at-bed-beside.ensures at-bed-beside2.ensures
+    lowest_of a.shape a.marks.now a.beds.now a.square c.bed_beside-north.ensures c.bed_beside-east.ensures
     c.bed_beside-south.ensures c.bed_beside-west.ensures
-    c.lower.ensures c.lower-2.ensures c.lower-3.ensures
+    c.min.ensures c.min-2.ensures c.min-3.ensures

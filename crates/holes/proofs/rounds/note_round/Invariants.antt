@@ -1,12 +1,8 @@
 use mathlib.Core.Path.{◌≡◌}
-use Prim.Native.Nat.{◌-◌, ◌≤◌}
 use lib.Dec.{eqb}
-use lib.ListN.{length, get_or}
+use lib.ListN.{get_or}
 use Rattle.reckon.specs.Lists.{filled}
 use Rattle.holes.proofs.rounds.note_round.Given as goal
 
 abbrev pub invariant-loop-square : goal.invariant-loop-square
-invariant-loop-square l = (l.square ≤ length l.before) × (l.turns ≡ filled l.square (λ i. eqb (get_or l.beds i 0) (get_or l.before i 0)) (λ i. l.turn) l.initial.turns)
-
-abbrev pub decreases-loop-square : goal.decreases-loop-square
-decreases-loop-square l = length l.before - l.square
+invariant-loop-square l = (l.turns ≡ filled l.square (λ i. eqb (get_or l.beds i 0) (get_or l.before i 0)) (λ i. l.turn) l.initial.turns)

@@ -11,8 +11,6 @@ use Rattle.ledger.proofs.FlowLaws.{four_words, four-sides, off_none, off_small}
 use Rattle.ledger.proofs.record.off_from.Goals as goal
 use Rattle.ledger.proofs.record.off_from.Goals.{After-off_side-west}
 
--- ---- the places, each from the one after it
-
 -- ---- where the four are known
 
 module _ (c : After-off_side-west) where

@@ -12,9 +12,6 @@ returns-then-beside_on-squares_of c =
     off_inside (plan c.args.shape c.args.marks.now) (leaves_in c.args.rec.now) c.args.square
     c.args.side c.beside_on.ensures (omega (arith, c.squares_of.ensures, c.if-beside_on-squares_of.true))
 
-pub leaving-requires : goal.leaving-requires
-leaving-requires c = omega (arith, c.requires.on_square.inside, c.requires.side_lt_sides, c.requires.recorded.record_long)
-
 pub returns : goal.returns
 returns c =
     c.leaving.ensures ∙ off_beyond (plan c.args.shape c.args.marks.now) (leaves_in c.args.rec.now)

@@ -1,14 +1,9 @@
 -- `ledger::take_back::came_and_added` meets its contract: five words.
 -- Assumes nothing.
-use mathlib.Core.Path.{ap₂}
-use Prim.Native.Nat.{◌+◌}
 use native.Mathlib.Omega.{arith}
 use Rattle.ledger.specs.Runs.{plan}
 use Rattle.ledger.proofs.FlowLaws.{came_small, added_small}
 use Rattle.ledger.proofs.take_back.came_and_added.Goals as goal
-
-pub added_by-requires : goal.added_by-requires
-added_by-requires c = omega (arith, c.requires.recorded.record_long, c.requires.on_square.inside)
 
 pub overflow_add-result : goal.overflow_add-result
 overflow_add-result c =
@@ -20,6 +15,3 @@ overflow_add-result c =
       c.added_by.ensures,
       added_small c.args.rec.now (λ k. (c.type_inv.rec k).fits) c.args.square,
     )
-
-pub returns : goal.returns
-returns c = ap₂ ◌+◌ c.came_to.ensures c.added_by.ensures

@@ -1,7 +1,5 @@
 -- `ledger::take_back::held_and_gone` meets its contract: a depth and five words.
 -- Assumes nothing.
-use mathlib.Core.Path.{ap₂}
-use Prim.Native.Nat.{◌+◌}
 use native.Mathlib.Omega.{arith}
 use Rattle.ledger.proofs.FlowLaws.{gone_small, soaked_small}
 use Rattle.ledger.proofs.take_back.held_and_gone.Goals as goal
@@ -16,6 +14,3 @@ overflow_add-result c =
       gone_small c.args.rec.now (λ k. (c.type_inv.rec k).fits) c.args.square,
       soaked_small c.args.rec.now (λ k. (c.type_inv.rec k).fits) c.args.square,
     )
-
-pub returns : goal.returns
-returns c = ap₂ ◌+◌ c.number.ensures c.lost_from.ensures

@@ -12,19 +12,12 @@ use Rattle.grid.specs.Marks.{closed}
 use Rattle.ledger.specs.Runs.{plan}
 use Rattle.ledger.specs.Inner.Worlds.{of_depths}
 use Rattle.ledger.specs.TakeBack.{depth_before}
-use Rattle.ledger.proofs.WalkLaws.{walk_none, walk_stands, walk_column, walk_next, walk_end, filled_long, filled_turn, filled_whole}
+use Rattle.ledger.proofs.WalkLaws.{walk_none, walk_stands, walk_next, filled_long, filled_turn}
 use Rattle.ledger.proofs.BackLaws.{restores_of, restores_own, before_own}
 use Rattle.ledger.proofs.take_back.restore_depths.Goals as goal
 
--- ---- the places, each by the one before it
-
--- ---- the answers
-
-pub squares_of-squares-requires : goal.squares_of-squares-requires
-squares_of-squares-requires c = c.requires.record_and_depths.recorded.fine
-
 pub loop-square-init : goal.loop-square-init
-loop-square-init c = (walk_none _ c.squares_of-squares.ensures, filled_none _ _ _)
+loop-square-init c = (walk_none _ c.squares_of-square-end.ensures, filled_none _ _ _)
 
 pub restore_depth-requires : goal.restore_depth-requires
 restore_depth-requires c =
@@ -43,21 +36,6 @@ restore_depth-requires c =
       );
     }
 
-pub overflow_add-square : goal.overflow_add-square
-overflow_add-square c =
-    omega (
-      arith,
-      c.loop-square-test.true,
-      c.squares_of-squares.ensures,
-      c.requires.record_and_depths.recorded.fine.few,
-    )
-
-pub next_column-column-requires : goal.next_column-column-requires
-next_column-column-requires c = (c.requires.record_and_depths.recorded.fine, walk_column _ c.loop-square.invariant.0 c.requires.record_and_depths.recorded.fine)
-
-pub loop-square-smaller : goal.loop-square-smaller
-loop-square-smaller c = omega (arith, c.loop-square-test.true)
-
 pub loop-square-preserved : goal.loop-square-preserved
 loop-square-preserved c =
     let p = plan c.args.shape c.args.marks.now in
@@ -66,7 +44,7 @@ loop-square-preserved c =
     omega (
       arith,
       c.requires.record_and_depths.depths_long,
-      c.squares_of-squares.ensures,
+      c.squares_of-square-end.ensures,
       c.loop-square-test.true,
     ) in
     let same : get_or c.loop-square.depths i 0 ≡ get_or c.args.depths.now i 0 =
@@ -77,9 +55,3 @@ loop-square-preserved c =
           c.args.depths.now l c.loop-square.invariant.1 (λ z. before_own p c.args.rec.now _ _ i same)
           c.restore_depth.ensures,
     )
-
-pub shape_of-depths : goal.shape_of-depths
-shape_of-depths c = filled_long _ _ _ _ c.loop-square.invariant.1
-
-pub returns : goal.returns
-returns c = filled_whole _ _ _ c.loop-square.invariant.1 (walk_end _ c.loop-square.invariant.0 c.loop-square-test.false)

@@ -1,5 +1,4 @@
 use mathlib.Core.Path.{◌≡◌}
-use Prim.Native.Nat.{◌-◌}
 use Rattle.reckon.specs.Lists.{filled}
 use Rattle.grid.specs.Marks.{closed}
 use Rattle.ledger.specs.Runs.{plan}
@@ -9,7 +8,4 @@ use Rattle.ledger.proofs.WalkLaws.{Walk}
 use Rattle.ledger.proofs.take_back.restore_depths.Given as goal
 
 abbrev pub invariant-loop-square : goal.invariant-loop-square
-invariant-loop-square l = (Walk l.shape l.squares l.square l.column) × (l.depths ≡ filled l.square (closed l.marks) (depth_before (plan l.shape l.marks) (of_depths l.initial.depths) l.rec) l.initial.depths)
-
-abbrev pub decreases-loop-square : goal.decreases-loop-square
-decreases-loop-square l = l.squares - l.square
+invariant-loop-square l = (Walk l.shape l.square-end l.square l.column) × (l.depths ≡ filled l.square (closed l.marks) (depth_before (plan l.shape l.marks) (of_depths l.initial.depths) l.rec) l.initial.depths)

@@ -1,39 +1,20 @@
 -- `ledger::take_back::square_restorable` meets its contract: each return is a case of the square's tests.
 -- Assumes nothing.
 use mathlib.Core.Path.{sym, ◌∙◌}
-use native.Mathlib.Omega.{arith}
 use Rattle.ledger.specs.Runs.{plan}
 use Rattle.ledger.proofs.BackLaws.{restorable-closed, restorable-last, restorable-short, restorable_decides}
 use Rattle.ledger.proofs.take_back.square_restorable.Goals as goal
-
-pub is_closed-requires : goal.is_closed-requires
-is_closed-requires c = omega (arith, c.requires.record_and_depths.recorded.marks_long, c.requires.on_square.inside)
 
 pub returns-then-is_closed : goal.returns-then-is_closed
 returns-then-is_closed c =
     restorable-closed (plan c.args.shape c.args.marks.now) c.args.rec.now c.args.depths.now
     c.args.square (sym c.is_closed.ensures ∙ c.if-is_closed.true)
 
-pub last_before-requires : goal.last_before-requires
-last_before-requires c = omega (arith, c.requires.record_and_depths.recorded.record_long, c.requires.on_square.inside)
-
 pub returns-then-last_before-gt-MOST_DEPTH : goal.returns-then-last_before-gt-MOST_DEPTH
 returns-then-last_before-gt-MOST_DEPTH c =
     restorable-last (plan c.args.shape c.args.marks.now) c.args.rec.now c.args.depths.now
     c.args.square (sym c.is_closed.ensures ∙ c.if-is_closed.false)
     c.last_before.ensures c.if-last_before-gt-MOST_DEPTH.true
-
-pub held_and_gone-more-requires : goal.held_and_gone-more-requires
-held_and_gone-more-requires c = (
-  omega (arith, c.requires.record_and_depths.depths_long, c.requires.on_square.inside),
-  omega (arith, c.requires.record_and_depths.recorded.record_long, c.requires.on_square.inside),
-)
-
-pub came_and_added-less-requires : goal.came_and_added-less-requires
-came_and_added-less-requires c = record {
-  recorded = c.requires.record_and_depths.recorded;
-  on_square = c.requires.on_square;
-}
 
 pub returns-then-more-less : goal.returns-then-more-less
 returns-then-more-less c =

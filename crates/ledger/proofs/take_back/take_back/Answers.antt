@@ -1,12 +1,11 @@
 -- `ledger::take_back::take_back` meets its contract: refused by what comes before 11, by the newest record, or restored.
 -- Assumes nothing.
-use mathlib.Core.Path.{◌≡◌, sym, ◌∙◌}
+use mathlib.Core.Path.{◌≡◌, sym}
 use mathlib.Core.Bool.{true}
 use mathlib.Core.List.{List, []}
 use Prim.Native.Nat.{ℕ, ◌+◌, ◌-◌, ◌≤◌}
 use native.Mathlib.Omega.{arith}
 use lib.ListN.{length, take, drop}
-use borrow.Author.Tests.{not-true, not-false}
 use Rattle.trials.specs.Ring.{slot_start}
 use Rattle.grid.specs.Squares.{squares}
 use Rattle.ledger.specs.Runs.{Plan, World, plan, world}
@@ -16,9 +15,7 @@ use Rattle.ledger.specs.Inner.TakeBack.{Kept, RecordAndDepths}
 use Rattle.ledger.proofs.RecordLaws.{slots_of}
 use Rattle.ledger.proofs.BackLaws.{takes_refused, takes_unfit, takes_back, clock_covers, squares-restorable, outflow_covers, soaked_covers, newest_below, kept_some, newest_fits, newest_is, newest_long, newest_led}
 use Rattle.ledger.proofs.take_back.take_back.Goals as goal
-use Rattle.ledger.proofs.take_back.take_back.Goals.{After-early_refusal-refused, After-slot_start-at, After-slots_in-slots, Else-not-found, Else-refused-ne0}
-
--- ---- the places, each from the one after it
+use Rattle.ledger.proofs.take_back.take_back.Goals.{After-early_refusal-refused, After-slot_start-at, After-slots_in-slots, In-Some, Else-refused-ne0}
 
 -- ---- what is known there
 
@@ -56,17 +53,11 @@ module _ (c : After-slot_start-at) where
   rec-led l =
       newest_led p w (kept (goal.at.After-slot_start-at c).Else-refused-ne0) c.record_size-size.ensures c.slots_in-slots.ensures c.slot_start-at.ensures l
 
-fit : (c : Else-not-found) → c.try_record-found.result.fits ≡ true
-fit c = not-false _ c.if-not-found.false
-
-restored : (c : Else-not-found) → restorable (p (goal.at.Else-not-found c).After-slot_start-at) (world (w (goal.at.Else-not-found c).After-slot_start-at).depths [] [] (w (goal.at.Else-not-found c).After-slot_start-at).run) (rec (goal.at.Else-not-found c).After-slot_start-at) ≡ true
-restored c = sym c.try_record-found.ensures.fits_is ∙ fit c
+restored : (c : In-Some) → restorable (p (goal.at.In-Some c).After-slot_start-at) (world (w (goal.at.In-Some c).After-slot_start-at).depths [] [] (w (goal.at.In-Some c).After-slot_start-at).run) (rec (goal.at.In-Some c).After-slot_start-at) ≡ true
+restored c = sym c.in-Some.ensures.fits_is
 
 pub returns-then-refused-ne0 : goal.returns-then-refused-ne0
 returns-then-refused-ne0 c = takes_refused (ground (goal.at.returns-then-refused-ne0 c).After-early_refusal-refused) (now_is (goal.at.returns-then-refused-ne0 c).After-early_refusal-refused) c.if-refused-ne0.true c.early_refusal-refused.ensures
-
-pub record_size-size-requires : goal.record_size-size-requires
-record_size-size-requires c = (kept c).watered.fine
 
 pub slot_start-at-requires : goal.slot_start-at-requires
 slot_start-at-requires c = omega (arith, fits c)
@@ -80,20 +71,14 @@ offset_bounds-records-at c = omega (arith, fits (goal.at.offset_bounds-records-a
 pub slice_bounds-rec-end : goal.slice_bounds-rec-end
 slice_bounds-rec-end c = omega (arith, fits (goal.at.slice_bounds-rec-end c).After-slots_in-slots, c.slot_start-at.ensures)
 
-pub try_record-found-requires : goal.try_record-found-requires
-try_record-found-requires c = rec-led (goal.at.try_record-found-requires c).After-slot_start-at (kept (goal.at.try_record-found-requires c).Else-refused-ne0).watered.depths_long
-
-pub returns-then-not-found : goal.returns-then-not-found
-returns-then-not-found c = takes_unfit (p (goal.at.returns-then-not-found c).After-slot_start-at) (w (goal.at.returns-then-not-found c).After-slot_start-at) (kept (goal.at.returns-then-not-found c).Else-refused-ne0) (rec-is (goal.at.returns-then-not-found c).After-slot_start-at) (sym c.try_record-found.ensures.fits_is ∙ not-true _ c.if-not-found.true)
+pub returns-in_default : goal.returns-in_default
+returns-in_default c = takes_unfit (p (goal.at.returns-in_default c).After-slot_start-at) (w (goal.at.returns-in_default c).After-slot_start-at) (kept (goal.at.returns-in_default c).Else-refused-ne0) (rec-is (goal.at.returns-in_default c).After-slot_start-at) (sym c.in_default.ensures.fits_is)
 
 pub restore_depths-requires : goal.restore_depths-requires
 restore_depths-requires c = record {
   record_and_depths = rec-led (goal.at.restore_depths-requires c).After-slot_start-at (kept (goal.at.restore_depths-requires c).Else-refused-ne0).watered.depths_long;
-  rec_value = squares-restorable (p (goal.at.restore_depths-requires c).After-slot_start-at) (w (goal.at.restore_depths-requires c).After-slot_start-at) (rec (goal.at.restore_depths-requires c).After-slot_start-at) (restored (goal.at.restore_depths-requires c).Else-not-found);
+  rec_value = squares-restorable (p (goal.at.restore_depths-requires c).After-slot_start-at) (w (goal.at.restore_depths-requires c).After-slot_start-at) (rec (goal.at.restore_depths-requires c).After-slot_start-at) (restored (goal.at.restore_depths-requires c).In-Some);
 }
-
-pub restore_lasts-requires : goal.restore_lasts-requires
-restore_lasts-requires c = rec-led (goal.at.restore_lasts-requires c).After-slot_start-at (kept (goal.at.restore_lasts-requires c).Else-refused-ne0).watered.lasts_long
 
 pub run_before-requires : goal.run_before-requires
 run_before-requires c =
@@ -105,16 +90,16 @@ run_before-requires c =
         kept_some (p (goal.at.run_before-requires c).After-slot_start-at) (w (goal.at.run_before-requires c).After-slot_start-at) (kept (goal.at.run_before-requires c).Else-refused-ne0) size slots,
       );
       rec_bound = (
-        clock_covers (p (goal.at.run_before-requires c).After-slot_start-at) (w (goal.at.run_before-requires c).After-slot_start-at) (rec (goal.at.run_before-requires c).After-slot_start-at) (restored (goal.at.run_before-requires c).Else-not-found),
-        omega (arith, c.try_record-found.ensures.off_is (fit (goal.at.run_before-requires c).Else-not-found), outflow_covers (p (goal.at.run_before-requires c).After-slot_start-at) (w (goal.at.run_before-requires c).After-slot_start-at) (rec (goal.at.run_before-requires c).After-slot_start-at) (restored (goal.at.run_before-requires c).Else-not-found)),
-        omega (arith, c.try_record-found.ensures.soaked_is (fit (goal.at.run_before-requires c).Else-not-found), soaked_covers (p (goal.at.run_before-requires c).After-slot_start-at) (w (goal.at.run_before-requires c).After-slot_start-at) (rec (goal.at.run_before-requires c).After-slot_start-at) (restored (goal.at.run_before-requires c).Else-not-found)),
+        clock_covers (p (goal.at.run_before-requires c).After-slot_start-at) (w (goal.at.run_before-requires c).After-slot_start-at) (rec (goal.at.run_before-requires c).After-slot_start-at) (restored (goal.at.run_before-requires c).In-Some),
+        omega (arith, c.in-Some.ensures.off_is, outflow_covers (p (goal.at.run_before-requires c).After-slot_start-at) (w (goal.at.run_before-requires c).After-slot_start-at) (rec (goal.at.run_before-requires c).After-slot_start-at) (restored (goal.at.run_before-requires c).In-Some)),
+        omega (arith, c.in-Some.ensures.soaked_is, soaked_covers (p (goal.at.run_before-requires c).After-slot_start-at) (w (goal.at.run_before-requires c).After-slot_start-at) (rec (goal.at.run_before-requires c).After-slot_start-at) (restored (goal.at.run_before-requires c).In-Some)),
       );
     }
 
 pub returns : goal.returns
 returns c =
-    takes_back (p (goal.at.returns c).After-slot_start-at) (w (goal.at.returns c).After-slot_start-at) (kept (goal.at.returns c).Else-refused-ne0) (rec-is (goal.at.returns c).After-slot_start-at) (restored (goal.at.returns c).Else-not-found)
+    takes_back (p (goal.at.returns c).After-slot_start-at) (w (goal.at.returns c).After-slot_start-at) (kept (goal.at.returns c).Else-refused-ne0) (rec-is (goal.at.returns c).After-slot_start-at) (restored (goal.at.returns c).In-Some)
     (slots_of (p (goal.at.returns c).After-slot_start-at) (w (goal.at.returns c).After-slot_start-at).records c.record_size-size.ensures c.slots_in-slots.ensures)
-    (c.try_record-found.ensures.off_is (fit (goal.at.returns c).Else-not-found)) (c.try_record-found.ensures.soaked_is (fit (goal.at.returns c).Else-not-found))
+    (c.in-Some.ensures.off_is) (c.in-Some.ensures.soaked_is)
     c.run_before.ensures c.restore_depths.ensures
     c.restore_lasts.ensures

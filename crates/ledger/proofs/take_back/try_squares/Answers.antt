@@ -1,117 +1,70 @@
 -- `ledger::take_back::try_squares` meets its contract: every square so far can be restored, and what it sent off the grid and what soaked is summed.
 -- Assumes nothing.
 use mathlib.Core.Path.{sym, ap₂, ◌∙◌}
-use mathlib.Core.List.{List}
-use Prim.Native.Nat.{ℕ, ◌+◌, ◌<◌}
+use Prim.Native.Nat.{◌+◌}
 use native.Mathlib.Omega.{arith}
 use Rattle.reckon.proofs.TestLaws.{all_none, all_more, all_fails, all_whole}
 use Rattle.reckon.proofs.ListLaws.{sum_none, sum_more}
-use Rattle.grid.specs.Squares.{squares, OnSquare}
-use Rattle.ledger.specs.Runs.{Plan, plan}
+use Rattle.ledger.specs.Runs.{plan}
 use Rattle.ledger.specs.Flows.{off_square, soaked_square}
 use Rattle.ledger.specs.Record.{leaves_in, soaked_in}
 use Rattle.ledger.proofs.FlowLaws.{off_small, off_sum_small, soaked_made, soaked_square_small, soaked_sum_small}
-use Rattle.ledger.proofs.WalkLaws.{walk_none, walk_stands, walk_column, walk_next, walk_end, walked_unfit, walked_fit}
+use Rattle.ledger.proofs.WalkLaws.{walk_none, walk_next, walk_end, walked_unfit, walked_fit}
 use Rattle.ledger.proofs.take_back.try_squares.Goals as goal
-use Rattle.ledger.proofs.take_back.try_squares.Goals.{After-squares_of-squares, In-loop-square}
-
--- ---- the places, each from the one after it
-
--- ---- what is known there
-
-module _ (c : After-squares_of-squares) where
-  abbrev p : Plan
-  p = plan c.args.shape c.args.marks.now
-
-  abbrev rec : List ℕ
-  rec = c.args.rec.now
-
--- in a turn: the square is one of the grid
-module _ (c : In-loop-square) where
-  abbrev i : ℕ
-  i = c.loop-square.square
-
-  inside : i < squares (p (goal.at.In-loop-square c).After-squares_of-squares).shape
-  inside = omega (arith, c.squares_of-squares.ensures, c.loop-square-test.true)
-
-  stands : OnSquare (p (goal.at.In-loop-square c).After-squares_of-squares).shape i c.loop-square.column
-  stands = walk_stands _ c.loop-square.invariant.0 c.requires.recorded.fine c.loop-square-test.true
-
-pub squares_of-squares-requires : goal.squares_of-squares-requires
-squares_of-squares-requires c = c.requires.recorded.fine
 
 pub loop-square-init : goal.loop-square-init
-loop-square-init c = (walk_none _ c.squares_of-squares.ensures, all_none _, sym (sum_none _), sym (sum_none _))
-
-pub square_restorable-requires : goal.square_restorable-requires
-square_restorable-requires c = record {
-  record_and_depths = c.requires;
-  on_square = stands c;
-}
+loop-square-init c = (walk_none _ c.squares_of-square-end.ensures, all_none _, sym (sum_none _), sym (sum_none _))
 
 pub returns-then-not-square_restorable : goal.returns-then-not-square_restorable
 returns-then-not-square_restorable c =
-    walked_unfit (p (goal.at.returns-then-not-square_restorable c).After-squares_of-squares) (rec (goal.at.returns-then-not-square_restorable c).After-squares_of-squares)
-    (all_fails _ _ (i (goal.at.returns-then-not-square_restorable c).In-loop-square) (inside (goal.at.returns-then-not-square_restorable c).In-loop-square) (sym c.square_restorable.ensures ∙ c.if-not-square_restorable.true))
-
-pub off_from-off-requires : goal.off_from-off-requires
-off_from-off-requires c = record {
-  recorded = c.requires.recorded;
-  on_square = stands (goal.at.off_from-off-requires c).In-loop-square;
-}
+    walked_unfit (plan c.args.shape c.args.marks.now) c.args.rec.now
+    (all_fails _ _ c.loop-square.square (omega (arith, c.squares_of-square-end.ensures)) (sym c.square_restorable.ensures ∙ c.if-not-square_restorable.true))
 
 pub overflow_add-off : goal.overflow_add-off
 overflow_add-off c =
+    let p = plan c.args.shape c.args.marks.now in
+    let rec = c.args.rec.now in
+    let i = c.loop-square.square in
     omega (
       arith,
       c.loop-square.invariant.2,
-      off_sum_small (rec (goal.at.overflow_add-off c).After-squares_of-squares) (λ k. (c.type_inv.rec k).fits) (p (goal.at.overflow_add-off c).After-squares_of-squares) (i (goal.at.overflow_add-off c).In-loop-square),
+      off_sum_small rec (λ k. (c.type_inv.rec k).fits) p i,
       c.off_from-off.ensures,
-      off_small (rec (goal.at.overflow_add-off c).After-squares_of-squares) (λ k. (c.type_inv.rec k).fits) (p (goal.at.overflow_add-off c).After-squares_of-squares) (i (goal.at.overflow_add-off c).In-loop-square),
-      inside (goal.at.overflow_add-off c).In-loop-square,
+      off_small rec (λ k. (c.type_inv.rec k).fits) p i,
+      c.squares_of-square-end.ensures,
       c.requires.recorded.fine.few,
     )
-
-pub soaked_from-soaked-requires : goal.soaked_from-soaked-requires
-soaked_from-soaked-requires c =
-    let lent = c.requires.recorded in
-    (omega (arith, lent.marks_long, inside (goal.at.soaked_from-soaked-requires c).In-loop-square), omega (arith, lent.record_long, inside (goal.at.soaked_from-soaked-requires c).In-loop-square))
 
 pub overflow_add-soaked : goal.overflow_add-soaked
 overflow_add-soaked c =
+    let p = plan c.args.shape c.args.marks.now in
+    let rec = c.args.rec.now in
+    let i = c.loop-square.square in
     omega (
       arith,
       c.loop-square.invariant.3,
-      soaked_sum_small (rec (goal.at.overflow_add-soaked c).After-squares_of-squares) (λ k. (c.type_inv.rec k).fits) (p (goal.at.overflow_add-soaked c).After-squares_of-squares) (i (goal.at.overflow_add-soaked c).In-loop-square),
-      soaked_made (rec (goal.at.overflow_add-soaked c).After-squares_of-squares) (λ k. (c.type_inv.rec k).fits) (p (goal.at.overflow_add-soaked c).After-squares_of-squares) (i (goal.at.overflow_add-soaked c).In-loop-square) c.soaked_from-soaked.ensures,
-      soaked_square_small (rec (goal.at.overflow_add-soaked c).After-squares_of-squares) (λ k. (c.type_inv.rec k).fits) (p (goal.at.overflow_add-soaked c).After-squares_of-squares) (i (goal.at.overflow_add-soaked c).In-loop-square),
-      inside (goal.at.overflow_add-soaked c).In-loop-square,
+      soaked_sum_small rec (λ k. (c.type_inv.rec k).fits) p i,
+      soaked_made rec (λ k. (c.type_inv.rec k).fits) p i c.soaked_from-soaked.ensures,
+      soaked_square_small rec (λ k. (c.type_inv.rec k).fits) p i,
+      c.squares_of-square-end.ensures,
       c.requires.recorded.fine.few,
     )
 
-pub overflow_add-square : goal.overflow_add-square
-overflow_add-square c = omega (arith, inside (goal.at.overflow_add-square c).In-loop-square, c.requires.recorded.fine.few)
-
-pub next_column-column-requires : goal.next_column-column-requires
-next_column-column-requires c =
-    let fine = c.requires.recorded.fine in
-    (fine, walk_column _ c.loop-square.invariant.0 fine)
-
-pub loop-square-smaller : goal.loop-square-smaller
-loop-square-smaller c = omega (arith, c.loop-square-test.true)
-
 pub loop-square-preserved : goal.loop-square-preserved
 loop-square-preserved c =
+    let p = plan c.args.shape c.args.marks.now in
+    let rec = c.args.rec.now in
+    let i = c.loop-square.square in
     let inv = c.loop-square.invariant in (
       walk_next _ inv.0 c.loop-square-test.true c.next_column-column.ensures,
       all_more _ _ inv.1 (sym c.square_restorable.ensures ∙ c.if-not-square_restorable.false),
-      ap₂ ◌+◌ inv.2 c.off_from-off.ensures ∙ sym (sum_more (i (goal.at.loop-square-preserved c).In-loop-square) (off_square (p (goal.at.loop-square-preserved c).After-squares_of-squares) (leaves_in (rec (goal.at.loop-square-preserved c).After-squares_of-squares)))),
-      ap₂ ◌+◌ inv.3 (soaked_made (rec (goal.at.loop-square-preserved c).After-squares_of-squares) (λ k. (c.type_inv.rec k).fits) (p (goal.at.loop-square-preserved c).After-squares_of-squares) (i (goal.at.loop-square-preserved c).In-loop-square) c.soaked_from-soaked.ensures)
-          ∙ sym (sum_more (i (goal.at.loop-square-preserved c).In-loop-square) (soaked_square (p (goal.at.loop-square-preserved c).After-squares_of-squares) (soaked_in (rec (goal.at.loop-square-preserved c).After-squares_of-squares)))),
+      ap₂ ◌+◌ inv.2 c.off_from-off.ensures ∙ sym (sum_more i (off_square p (leaves_in rec))),
+      ap₂ ◌+◌ inv.3 (soaked_made rec (λ k. (c.type_inv.rec k).fits) p i c.soaked_from-soaked.ensures)
+          ∙ sym (sum_more i (soaked_square p (soaked_in rec))),
     )
 
 pub returns : goal.returns
 returns c =
     let inv = c.loop-square.invariant in
     let whole = walk_end _ inv.0 c.loop-square-test.false in
-    walked_fit (p (goal.at.returns c).After-squares_of-squares) (rec (goal.at.returns c).After-squares_of-squares) (all_whole _ inv.1 whole) inv.2 inv.3 whole
+    walked_fit (plan c.args.shape c.args.marks.now) c.args.rec.now (all_whole _ inv.1 whole) inv.2 inv.3 whole

@@ -11,16 +11,16 @@ pub returns-then-text-gt-MOST_TEXT : goal.returns-then-text-gt-MOST_TEXT
 unfolding listed
 returns-then-text-gt-MOST_TEXT c = c.refused.ensures ∙ sym (pick_false _ _ (lt-leb _ _ c.if-text-gt-MOST_TEXT.true))
 
-pub returns-in-Not : goal.returns-in-Not
+pub returns-in-None : goal.returns-in-None
 unfolding listed
-returns-in-Not c =
+returns-in-None c =
     by_number (list_refused 1) (list_after c.args.text.now)
-    (sym c.number_at.ensures ∙ c.in-Not.is) c.refused-in-Not.ensures
+    (sym c.number_at.ensures ∙ c.in-None.is) c.refused-in-None.ensures
     ∙ sym (pick_true _ _ (le-leb _ _ c.if-text-gt-MOST_TEXT.false))
 
-pub returns-in-Is : goal.returns-in-Is
+pub returns-in-Some : goal.returns-in-Some
 unfolding listed
-returns-in-Is c =
+returns-in-Some c =
     by_number (list_refused 1) (list_after c.args.text.now)
-    (sym c.number_at.ensures ∙ c.in-Is.is) c.list_after.ensures
+    (sym c.number_at.ensures ∙ c.in-Some.is) c.list_after.ensures
     ∙ sym (pick_true _ _ (le-leb _ _ c.if-text-gt-MOST_TEXT.false))

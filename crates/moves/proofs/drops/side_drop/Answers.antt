@@ -8,8 +8,6 @@ use Rattle.moves.proofs.DropLaws.{drop_there, drop-exit, drop_rim}
 use Rattle.moves.proofs.drops.side_drop.Goals as goal
 use Rattle.moves.proofs.drops.side_drop.Goals.{Start}
 
--- ---- the places, each by the one before it
-
 -- ---- what is known there
 
 abbrev p : Start → Plan

@@ -10,7 +10,7 @@ use Rattle.grid.specs.Squares.{squares}
 use Rattle.grid.specs.Masks.{bits}
 use Rattle.grid.specs.Inner.Visits.{Passes, Visits}
 use Rattle.grid.proofs.SquareLaws.{row-column}
-use Rattle.grid.proofs.RestLaws.{walk_begins, walk_within, walk_turn, walk_on, walk_less, walk_over}
+use Rattle.grid.proofs.RestLaws.{walk_begins, walk_within, walk_turn, walk_on, walk_over}
 use Rattle.ledger.specs.Runs.{Plan, plan}
 use Rattle.checks.specs.Given.{Ground, ground}
 use Rattle.moves.specs.Inner.Fill.{FilledColumns}
@@ -18,8 +18,6 @@ use Rattle.moves.proofs.FillLaws.{fills_still}
 use Rattle.moves.proofs.WetLaws.{columns_none, columns_idle, columns_more, senders_fit}
 use Rattle.moves.proofs.fill.fill_row.Goals as goal
 use Rattle.moves.proofs.fill.fill_row.Goals.{After-lowest_set-column, After-sender_bit-senders, Start}
-
--- ---- the places, each by the one before it
 
 -- ---- what is known there
 
@@ -70,14 +68,8 @@ module _ (c : After-sender_bit-senders) where
 
 -- ---- the answers
 
-pub within_row-rest-requires : goal.within_row-rest-requires
-within_row-rest-requires c = (c.requires.fills.flows.lies.sited.fine.columns_low, high (goal.at.within_row-rest-requires c).Start)
-
 pub loop-rest-init : goal.loop-rest-init
 loop-rest-init c = (refl, refl, walk_begins (high (goal.at.loop-rest-init c).Start) c.within_row-rest.ensures columns_none)
-
-pub lowest_set-column-requires : goal.lowest_set-column-requires
-lowest_set-column-requires c = omega (arith, c.loop-rest-test.true)
 
 pub overflow_add-square : goal.overflow_add-square
 overflow_add-square c = omega (arith, c.requires.in_row.0.fits, c.requires.fills.flows.lies.sited.fine.few, within (goal.at.overflow_add-square c).After-lowest_set-column)
@@ -94,24 +86,12 @@ sender_bit-senders-requires c = omega (arith, within (goal.at.sender_bit-senders
 pub overflow_add-senders : goal.overflow_add-senders
 overflow_add-senders c = record { fits = senders_fit (one_more c) c.requires.in_row.0.fits (omega (arith, within (goal.at.overflow_add-senders c).After-lowest_set-column, high (goal.at.overflow_add-senders c).Start)) }
 
-pub without_lowest-rest-requires : goal.without_lowest-rest-requires
-without_lowest-rest-requires c = omega (arith, c.loop-rest-test.true)
-
-pub loop-rest-smaller : goal.loop-rest-smaller
-loop-rest-smaller c = walk_less c.loop-rest-test.true c.without_lowest-rest.ensures
-
 pub loop-rest-preserved : goal.loop-rest-preserved
 loop-rest-preserved c = (
   c.fill_square-sent.auto.rec ∙ c.loop-rest.invariant.0,
   c.fill_square-sent.auto.left ∙ c.loop-rest.invariant.1,
   walk_on c.loop-rest.invariant.2 (high (goal.at.loop-rest-preserved c).Start) c.loop-rest-test.true c.lowest_set-column.ensures c.without_lowest-rest.ensures (one_more (goal.at.loop-rest-preserved c).After-sender_bit-senders),
 )
-
-pub shape_of-rec : goal.shape_of-rec
-shape_of-rec c = c.loop-rest.invariant.0
-
-pub shape_of-left : goal.shape_of-left
-shape_of-left c = c.loop-rest.invariant.1
 
 pub returns : goal.returns
 returns c = walk_over c.loop-rest.invariant.2 (high (goal.at.returns c).Start) c.loop-rest-test.false (passes (goal.at.returns c).Start _ _ _)

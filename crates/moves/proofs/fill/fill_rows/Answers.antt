@@ -1,13 +1,13 @@
 -- `moves::fill::fill_rows` meets its contract: row after row, the squares passed are the record's, what left them is kept, and the rows passed
 -- are the senders'.
 -- Assumes nothing.
-use mathlib.Core.Path.{◌≡◌, refl, ◌∙◌, subst}
+use mathlib.Core.Path.{refl, ◌∙◌, subst}
 use Prim.Native.Nat.{ℕ}
 use native.Mathlib.Omega.{arith}
-use lib.ListN.{length, get_or}
+use lib.ListN.{get_or}
 use Rattle.grid.specs.Walks.{bit_of}
-use Rattle.grid.proofs.MaskLaws.{rowed_none, rowed_long, rowed_more}
-use Rattle.grid.proofs.SquareLaws.{row_fits, rows_begin, row_here, row_next, rows_end}
+use Rattle.grid.proofs.MaskLaws.{rowed_none, rowed_more}
+use Rattle.grid.proofs.SquareLaws.{rows_begin, row_here, row_next, rows_end}
 use Rattle.grid.proofs.WalkLaws.{by_row}
 use Rattle.ledger.specs.Runs.{Plan, plan}
 use Rattle.checks.specs.Given.{Ground, ground}
@@ -17,8 +17,6 @@ use Rattle.moves.proofs.WetLaws.{left_none, left-row, rows_told}
 use Rattle.moves.proofs.fill.fill_rows.Goals as goal
 use Rattle.moves.proofs.fill.fill_rows.Goals.{At-loop-row, Start}
 
--- ---- the places, each by the one before it
-
 -- ---- what is known there
 
 abbrev p : Start → Plan
@@ -26,10 +24,6 @@ p s = plan s.args.way.shape s.args.marks.now
 
 abbrev o : Start → Ground
 o s = ground s.args.way.rules s.args.beds.now s.args.roughness.now s.args.rates.now
-
--- the room of senders has a number for each row
-long : (c : At-loop-row) → length c.loop-row.senders ≡ c.args.way.shape.rows
-long c = rowed_long _ _ _ _ c.loop-row.invariant.5 ∙ c.requires.unstirred_by.3
 
 -- ---- the answers
 
@@ -43,12 +37,6 @@ loop-row-init c = (
   rowed_none _ _ _,
 )
 
-pub offset_bounds-worked-row : goal.offset_bounds-worked-row
-offset_bounds-worked-row c = record { fits = omega (arith, c.requires.fills.flows.lies.sited.fine.rows_high, c.loop-row-test.true) }
-
-pub bounds-worked-row : goal.bounds-worked-row
-bounds-worked-row c = omega (arith, c.requires.unstirred_by.1, c.loop-row-test.true)
-
 pub fill_row-requires : goal.fill_row-requires
 unfolding bit_of
 fill_row-requires c = record {
@@ -61,21 +49,6 @@ fill_row-requires c = record {
   );
 }
 
-pub offset_bounds-senders-row : goal.offset_bounds-senders-row
-offset_bounds-senders-row c = record { fits = omega (arith, c.requires.fills.flows.lies.sited.fine.rows_high, c.loop-row-test.true) }
-
-pub bounds-senders-row : goal.bounds-senders-row
-bounds-senders-row c = omega (arith, long (goal.at.bounds-senders-row c).At-loop-row, c.loop-row-test.true)
-
-pub overflow_add-row : goal.overflow_add-row
-overflow_add-row c = omega (arith, c.requires.fills.flows.lies.sited.fine.rows_high, c.loop-row-test.true)
-
-pub overflow_add-first : goal.overflow_add-first
-overflow_add-first c = omega (arith, row_fits c.args.way.shape c.loop-row-test.true, c.requires.fills.flows.lies.sited.fine.few, c.loop-row.invariant.0.begins)
-
-pub loop-row-smaller : goal.loop-row-smaller
-loop-row-smaller c = omega (arith, c.loop-row-test.true)
-
 pub loop-row-preserved : goal.loop-row-preserved
 loop-row-preserved c =
     let inv = c.loop-row.invariant in (
@@ -87,15 +60,6 @@ loop-row-preserved c =
           c.loop-row.row inv.0.begins refl inv.4 c.fill_row.ensures,
       rowed_more _ _ _ _ inv.5 inv.0.begins (omega (arith, c.requires.unstirred_by.3, c.loop-row-test.true)) c.fill_row.ensures.senders_are,
     )
-
-pub shape_of-rec : goal.shape_of-rec
-shape_of-rec c = c.loop-row.invariant.1
-
-pub shape_of-left : goal.shape_of-left
-shape_of-left c = c.loop-row.invariant.2
-
-pub shape_of-senders : goal.shape_of-senders
-shape_of-senders c = rowed_long _ _ _ _ c.loop-row.invariant.5
 
 pub returns : goal.returns
 returns c =

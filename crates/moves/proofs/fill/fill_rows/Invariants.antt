@@ -1,5 +1,4 @@
 use mathlib.Core.Path.{◌≡◌}
-use Prim.Native.Nat.{◌-◌}
 use lib.ListN.{length}
 use Rattle.grid.specs.Inner.Rows.{AtRow}
 use Rattle.grid.proofs.MaskLaws.{Rowed}
@@ -17,6 +16,3 @@ invariant-loop-row l = AtRow l.rows l.columns l.row l.first
     × FilledOn (plan l.way.shape l.marks) (ground l.way.rules l.beds l.roughness l.rates) l.depths l.lasts l.added l.span.start l.span.duration 0 l.first l.initial.rec l.rec
     × LeftTo (plan l.way.shape l.marks) (ground l.way.rules l.beds l.roughness l.rates) l.depths l.lasts l.span.duration l.worked l.first l.left
     × Rowed (sends (plan l.way.shape l.marks) (leaves_for (plan l.way.shape l.marks) (ground l.way.rules l.beds l.roughness l.rates) l.depths l.lasts l.span.duration)) l.columns l.initial.senders l.senders l.row
-
-abbrev pub decreases-loop-row : goal.decreases-loop-row
-decreases-loop-row l = l.rows - l.row

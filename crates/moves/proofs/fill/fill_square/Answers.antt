@@ -10,8 +10,6 @@ use Rattle.moves.proofs.FillLaws.{put_dry, soaked_dry, dry-gone, dry_silent, lef
 use Rattle.moves.proofs.fill.fill_square.Goals as goal
 use Rattle.moves.proofs.fill.fill_square.Goals.{Else-is_closed, Start}
 
--- ---- the places, each by the one before it
-
 -- ---- what is known there
 
 abbrev p : Start → Plan
@@ -50,12 +48,3 @@ returns-then-depths-square-eq0 c =
           (sym (dry-gone (p (goal.at.returns-then-depths-square-eq0 c).Start) (o (goal.at.returns-then-depths-square-eq0 c).Start) c.args.depths.now c.args.lasts.now c.args.span.duration c.args.at.square e none));
       sent_is = sym (dry_silent (p (goal.at.returns-then-depths-square-eq0 c).Start) (o (goal.at.returns-then-depths-square-eq0 c).Start) c.args.depths.now c.args.lasts.now c.args.span.duration c.args.at.square (λ z. none));
     }
-
-pub work_square-requires : goal.work_square-requires
-work_square-requires c = record {
-  fills = c.requires.fills;
-  on_square = (c.requires.on_square.0, is_open (goal.at.work_square-requires c).Else-is_closed, c.requires.on_square.1);
-}
-
-pub returns : goal.returns
-returns c = c.work_square.ensures

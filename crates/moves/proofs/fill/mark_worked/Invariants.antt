@@ -1,4 +1,3 @@
-use Prim.Native.Nat.{◌-◌}
 use Rattle.grid.specs.Inner.Rows.{AtRow}
 use Rattle.grid.proofs.MaskLaws.{Rowed}
 use Rattle.moves.specs.Inner.Fill.{works_on}
@@ -6,6 +5,3 @@ use Rattle.moves.proofs.fill.mark_worked.Given as goal
 
 abbrev pub invariant-loop-row : goal.invariant-loop-row
 invariant-loop-row l = AtRow l.rows l.columns l.row l.first × Rowed (works_on l.walk l.depths l.lasts l.added) l.columns l.initial.worked l.worked l.row
-
-abbrev pub decreases-loop-row : goal.decreases-loop-row
-decreases-loop-row l = l.rows - l.row

@@ -4,7 +4,7 @@ use mathlib.Core.Path.{◌≡◌, ◌∙◌}
 use mathlib.Core.List.{List}
 use Prim.Native.Nat.{ℕ, ◌≤◌, ◌<◌}
 use native.Mathlib.Omega.{arith}
-use lib.ListN.{length, get_or}
+use lib.ListN.{get_or}
 use Rattle.reckon.specs.Ranges.{most_depth}
 use Rattle.reckon.proofs.TestLaws.{not_both}
 use Rattle.grid.specs.Squares.{most_squares}
@@ -18,8 +18,6 @@ use Rattle.moves.proofs.MoveLaws.{weights}
 use Rattle.moves.proofs.FillLaws.{weighed_made, put_wet, words_fit, gone_made, gone_covered, soaked_made, sends_made, left-set}
 use Rattle.moves.proofs.fill.work_square.Goals as goal
 use Rattle.moves.proofs.fill.work_square.Goals.{After-four_leaving-gone, After-soaks-soaked, After-weigh-leaves, Start}
-
--- ---- the places, each by the one before it
 
 -- ---- what is known there
 
@@ -62,13 +60,6 @@ module _ (c : After-four_leaving-gone) where
         c.number-depth.ensures,
       )
 
--- the square is one of each list
-inside-lasts : (c : After-soaks-soaked) → c.args.at.square < length c.args.lasts.now
-inside-lasts c = omega (arith, c.requires.on_square.0.inside, c.requires.fills.flows.lasts_long)
-
-inside-added : (c : After-soaks-soaked) → c.args.at.square < length c.args.added.now
-inside-added c = omega (arith, c.requires.on_square.0.inside, c.requires.fills.added_long)
-
 few : (c : After-soaks-soaked) → c.args.at.square < most_squares
 few c = omega (arith, c.requires.on_square.0.inside, c.requires.on_square.0.fine.few)
 
@@ -91,30 +82,8 @@ four_leaving-gone-requires c =
       shallow c,
     )
 
-pub number-requires-3 : goal.number-requires-3
-number-requires-3 c = omega (arith, c.requires.on_square.0.inside, c.requires.fills.flows.rates_long)
-
 pub overflow_sub-depth : goal.overflow_sub-depth
 overflow_sub-depth c = left (goal.at.overflow_sub-depth c).After-four_leaving-gone
-
-pub soaks-soaked-requires : goal.soaks-soaked-requires
-soaks-soaked-requires c = record {
-  rate_to = omega (arith, c.number-3.ensures, c.requires.fills.flows.rates_to c.args.at.square c.requires.on_square.0.inside c.requires.on_square.1);
-  ordered = omega arith;
-  end_to = c.requires.fills.end_to;
-}
-
-pub offset_bounds-lasts-square : goal.offset_bounds-lasts-square
-offset_bounds-lasts-square c = record { fits = omega (arith, few (goal.at.offset_bounds-lasts-square c).After-soaks-soaked) }
-
-pub bounds-lasts-square : goal.bounds-lasts-square
-bounds-lasts-square c = inside-lasts (goal.at.bounds-lasts-square c).After-soaks-soaked
-
-pub offset_bounds-added-square : goal.offset_bounds-added-square
-offset_bounds-added-square c = record { fits = omega (arith, few (goal.at.offset_bounds-added-square c).After-soaks-soaked) }
-
-pub bounds-added-square : goal.bounds-added-square
-bounds-added-square c = inside-added (goal.at.bounds-added-square c).After-soaks-soaked
 
 pub put_square-requires : goal.put_square-requires
 put_square-requires c = record {
@@ -127,12 +96,6 @@ put_square-requires c = record {
 -- what left fits a word, and the square is one of the room's
 pub overflow_cast-left : goal.overflow_cast-left
 overflow_cast-left c = omega (arith, left (goal.at.overflow_cast-left c).After-four_leaving-gone, shallow (goal.at.overflow_cast-left c).After-weigh-leaves, c.number-depth.ensures)
-
-pub offset_bounds-left-square : goal.offset_bounds-left-square
-offset_bounds-left-square c = record { fits = omega (arith, few (goal.at.offset_bounds-left-square c).After-soaks-soaked) }
-
-pub bounds-left-square : goal.bounds-left-square
-bounds-left-square c = omega (arith, c.requires.on_square.0.inside, c.requires.on_square.2)
 
 pub returns : goal.returns
 returns c =

@@ -4,6 +4,3 @@ use Rattle.moves.proofs.fill.worked_below.Given as goal
 
 abbrev pub invariant-loop-ahead : goal.invariant-loop-ahead
 invariant-loop-ahead l = Built (works_on l.walk l.depths l.lasts l.added) l.row.first l.columns l.ahead l.mask
-
-abbrev pub decreases-loop-ahead : goal.decreases-loop-ahead
-decreases-loop-ahead l = l.ahead

@@ -1,14 +1,7 @@
 -- `moves::fill::worked_digit` meets its contract: one walk works every square, the other those that stir.
 -- Assumes nothing.
-use native.Mathlib.Omega.{arith}
-use Rattle.moves.specs.Inner.Fill.{stirs}
-use Rattle.moves.proofs.WetLaws.{digit_low, works_all, works_wet}
+use Rattle.moves.proofs.WetLaws.{works_all, works_wet}
 use Rattle.moves.proofs.fill.worked_digit.Goals as goal
-
-pub overflow_cast-result : goal.overflow_cast-result
-overflow_cast-result c =
-    let a = c.args in
-    record { fits = omega (arith, c.stirring.ensures, digit_low (stirs a.depths.now a.lasts.now a.added.now a.square)) }
 
 pub returns-in-All : goal.returns-in-All
 returns-in-All c =

@@ -1,15 +1,7 @@
 -- `moves::fill::worked_eight` meets its contract: one walk works all eight, the other those that stir.
 -- Assumes nothing.
-use native.Mathlib.Omega.{arith}
-use Rattle.grid.proofs.MaskLaws.{mask_small}
-use Rattle.moves.specs.Inner.Fill.{stirs}
 use Rattle.moves.proofs.WetLaws.{eight_all, eight_wet}
 use Rattle.moves.proofs.fill.worked_eight.Goals as goal
-
-pub overflow_cast-result : goal.overflow_cast-result
-overflow_cast-result c =
-    let a = c.args in
-    record { fits = omega (arith, c.stirring_eight.ensures, mask_small (stirs a.depths.now a.lasts.now a.added.now) a.at 8) }
 
 pub returns-in-All : goal.returns-in-All
 returns-in-All c =

@@ -5,15 +5,13 @@ use Prim.Native.Nat.{ℕ, ◌+◌}
 use native.Mathlib.Omega.{arith}
 use Rattle.grid.specs.Inner.Visits.{Passes}
 use Rattle.grid.proofs.SquareLaws.{row-column}
-use Rattle.grid.proofs.WalkLaws.{walk_visits, walk_ends, walk_nearer}
+use Rattle.grid.proofs.WalkLaws.{walk_visits, walk_nearer}
 use Rattle.ledger.specs.Runs.{Plan, plan}
 use Rattle.checks.specs.Given.{Ground}
 use Rattle.moves.specs.Inner.Fill.{firm, least_below}
 use Rattle.moves.proofs.WetLaws.{dry_clear, below_more, below_idle}
 use Rattle.moves.proofs.length.least_in_row.Goals as goal
 use Rattle.moves.proofs.length.least_in_row.Goals.{Start}
-
--- ---- the places, each by the one before it
 
 -- ---- what is known there
 
@@ -34,25 +32,16 @@ passes s best k h b e =
 
 -- ---- the answers
 
-pub next_within-column-requires : goal.next_within-column-requires
-next_within-column-requires c = (omega arith, c.requires.meadow_in_range.sited.fine.columns_high)
-
 pub loop-column-init : goal.loop-column-init
 loop-column-init c =
     walk_visits (passes (goal.at.loop-column-init c).Start _) c.requires.meadow_in_range.sited.fine.columns_high 0 (omega arith) c.next_within-column.ensures
     (c.requires.longer_value ∙ ap (least_below (p (goal.at.loop-column-init c).Start) (o (goal.at.loop-column-init c).Start) c.args.depths.now) (let e : c.args.first ≡ c.args.first + 0 = omega arith in e))
-
-pub overflow_add-square : goal.overflow_add-square
-overflow_add-square c = omega (arith, c.requires.in_row.0.fits, c.requires.meadow_in_range.sited.fine.few, c.loop-column-test.true)
 
 pub shorter_by-best-requires : goal.shorter_by-best-requires
 shorter_by-best-requires c = (
   c.requires.meadow_in_range,
   row-column c.args.way.shape c.requires.meadow_in_range.sited.fine c.requires.in_row.0 c.loop-column-test.true,
 )
-
-pub next_after-column-requires : goal.next_after-column-requires
-next_after-column-requires c = (c.loop-column-test.true, c.requires.meadow_in_range.sited.fine.columns_high)
 
 pub loop-column-smaller : goal.loop-column-smaller
 loop-column-smaller c = walk_nearer c.args.wet c.loop-column-test.true c.next_after-column.ensures
@@ -63,6 +52,3 @@ loop-column-preserved c =
     walk_visits (passes (goal.at.loop-column-preserved c).Start _) c.requires.meadow_in_range.sited.fine.columns_high (column + 1) (omega (arith, c.loop-column-test.true)) c.next_after-column.ensures
     (below_more (p (goal.at.loop-column-preserved c).Start) (o (goal.at.loop-column-preserved c).Start) c.args.depths.now (c.args.first + column) c.loop-column.invariant.held c.shorter_by-best.ensures
     ∙ ap (least_below (p (goal.at.loop-column-preserved c).Start) (o (goal.at.loop-column-preserved c).Start) c.args.depths.now) (let e : c.args.first + column + 1 ≡ c.args.first + (column + 1) = omega arith in e))
-
-pub returns : goal.returns
-returns c = walk_ends c.loop-column.invariant c.loop-column-test.false

@@ -3,15 +3,13 @@
 use mathlib.Core.Path.{sym}
 use native.Mathlib.Nat.{zero-mod}
 use native.Mathlib.Omega.{arith}
-use Rattle.grid.proofs.SquareLaws.{carried, column-within}
+use Rattle.grid.proofs.SquareLaws.{carried}
 use Rattle.ledger.specs.Runs.{Plan, plan}
 use Rattle.checks.specs.Given.{Ground}
 use Rattle.moves.specs.Inner.Fill.{firm}
 use Rattle.moves.proofs.LengthLaws.{least_begin, least_more, least_all}
 use Rattle.moves.proofs.length.least_of_all.Goals as goal
 use Rattle.moves.proofs.length.least_of_all.Goals.{Start}
-
--- ---- the places, each by the one before it
 
 -- ---- what is known there
 
@@ -23,19 +21,8 @@ o s = firm s.args.way.rules s.args.beds.now s.args.roughness.now
 
 -- ---- the answers
 
-pub squares_of-squares-requires : goal.squares_of-squares-requires
-squares_of-squares-requires c = c.requires.sited.fine
-
 pub loop-square-init : goal.loop-square-init
 loop-square-init c = (omega arith, sym (zero-mod c.args.way.shape.columns), least_begin (p (goal.at.loop-square-init c).Start) (o (goal.at.loop-square-init c).Start) c.args.depths.now c.args.way.rules.longest)
-
-pub shorter_by-best-requires : goal.shorter_by-best-requires
-shorter_by-best-requires c = (c.requires, record { fine = c.requires.sited.fine; inside = omega arith; column_is = c.loop-square.invariant.1 })
-
-pub next_column-column-requires : goal.next_column-column-requires
-next_column-column-requires c =
-    let fine = c.requires.sited.fine in
-    (fine, column-within c.args.way.shape c.loop-square.square fine.columns_low c.loop-square.invariant.1)
 
 pub loop-square-preserved : goal.loop-square-preserved
 loop-square-preserved c = (

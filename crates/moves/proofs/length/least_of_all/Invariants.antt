@@ -1,5 +1,5 @@
 use mathlib.Core.Path.{◌≡◌}
-use Prim.Native.Nat.{◌-◌, ◌*◌, ◌%◌, ◌≤◌}
+use Prim.Native.Nat.{◌*◌, ◌%◌, ◌≤◌}
 use Rattle.reckon.specs.Lists.{joined}
 use Rattle.rule.specs.Length.{least_from}
 use Rattle.ledger.specs.Runs.{plan}
@@ -11,6 +11,3 @@ abbrev pub invariant-loop-square : goal.invariant-loop-square
 invariant-loop-square l = (l.square ≤ l.way.shape.rows * l.way.shape.columns)
     × (l.column ≡ l.square % l.way.shape.columns)
     × (l.best ≡ least_from l.way.rules.longest (joined l.square (square_candidates (plan l.way.shape l.marks) (firm l.way.rules l.beds l.roughness) l.depths)))
-
-abbrev pub decreases-loop-square : goal.decreases-loop-square
-decreases-loop-square l = l.squares - l.square

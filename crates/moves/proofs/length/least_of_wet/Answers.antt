@@ -1,16 +1,13 @@
 -- `moves::length::least_of_wet` meets its contract: row after row, the least of the squares passed.
 -- Assumes nothing.
 use mathlib.Core.Path.{refl}
-use native.Mathlib.Omega.{arith}
-use Rattle.grid.proofs.SquareLaws.{row_fits, rows_begin, row_here, row_next, rows_end}
+use Rattle.grid.proofs.SquareLaws.{rows_begin, row_here, rows_end}
 use Rattle.ledger.specs.Runs.{Plan, plan}
 use Rattle.checks.specs.Given.{Ground}
 use Rattle.moves.specs.Inner.Fill.{firm}
 use Rattle.moves.proofs.WetLaws.{below_none, below_all}
 use Rattle.moves.proofs.length.least_of_wet.Goals as goal
 use Rattle.moves.proofs.length.least_of_wet.Goals.{Start}
-
--- ---- the places, each by the one before it
 
 -- ---- what is known there
 
@@ -25,37 +22,12 @@ o s = firm s.args.way.rules s.args.beds.now s.args.roughness.now
 pub loop-row-init : goal.loop-row-init
 loop-row-init c = (rows_begin _ _, below_none (p (goal.at.loop-row-init c).Start) (o (goal.at.loop-row-init c).Start) c.args.depths.now c.args.way.rules.longest refl)
 
-pub row_mask-wet-requires : goal.row_mask-wet-requires
-row_mask-wet-requires c =
-    let fits = row_fits c.args.way.shape c.loop-row-test.true in
-    let sited = c.requires.sited in
-    record {
-      columns_high = sited.fine.columns_high;
-      marks_long = omega (arith, fits, sited.marks_long, c.loop-row.invariant.0.begins);
-      depths_long = omega (arith, fits, sited.depths_long, c.loop-row.invariant.0.begins);
-    }
-
 pub least_in_row-best-requires : goal.least_in_row-best-requires
 least_in_row-best-requires c = record {
   meadow_in_range = c.requires;
   in_row = (row_here c.args.way.shape c.loop-row.invariant.0 c.loop-row-test.true, c.row_mask-wet.ensures);
   longer_value = c.loop-row.invariant.1;
 }
-
-pub overflow_add-row : goal.overflow_add-row
-overflow_add-row c = omega (arith, c.requires.sited.fine.rows_high, c.loop-row-test.true)
-
-pub overflow_add-first : goal.overflow_add-first
-overflow_add-first c = omega (arith, row_fits c.args.way.shape c.loop-row-test.true, c.requires.sited.fine.few, c.loop-row.invariant.0.begins)
-
-pub loop-row-smaller : goal.loop-row-smaller
-loop-row-smaller c = omega (arith, c.loop-row-test.true)
-
-pub loop-row-preserved : goal.loop-row-preserved
-loop-row-preserved c = (
-  row_next c.loop-row.invariant.0 c.loop-row-test.true,
-  c.least_in_row-best.ensures,
-)
 
 pub returns : goal.returns
 returns c = below_all (p (goal.at.returns c).Start) (o (goal.at.returns c).Start) c.args.depths.now c.loop-row.invariant.1 (rows_end c.args.way.shape c.loop-row.invariant.0 c.loop-row-test.false)

@@ -11,8 +11,6 @@ use Rattle.moves.proofs.LengthLaws.{least_closed, least_open, least_dry, shorter
 use Rattle.moves.proofs.length.shorter_by.Goals as goal
 use Rattle.moves.proofs.length.shorter_by.Goals.{Else-is_closed, Start}
 
--- ---- the places, each by the one before it
-
 -- ---- what is known there
 
 abbrev p : Start → Plan

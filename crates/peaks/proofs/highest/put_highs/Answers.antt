@@ -7,7 +7,7 @@ use lib.ListN.{length}
 use Rattle.reckon.specs.Lists.{joined}
 use Rattle.grid.specs.Squares.{squares}
 use Rattle.ledger.specs.Runs.{plan}
-use Rattle.answer.proofs.PrintLaws.{none_written, lines_length, line_fits, line_written, lines_whole}
+use Rattle.answer.proofs.PrintLaws.{none_written, line_fits, line_written, lines_whole}
 use Rattle.peaks.specs.Highest.{high_text, highs_text}
 use Rattle.peaks.proofs.highest.put_highs.Goals as goal
 use Rattle.peaks.proofs.highest.put_highs.Goals.{Start}
@@ -20,33 +20,25 @@ fits : (s : Start) → s.args.at + length (joined (squares s.args.shape) (text_o
 unfolding highs_text
 fits s = s.requires.clocks_in_bounds
 
-pub squares_of-squares-requires : goal.squares_of-squares-requires
-squares_of-squares-requires c = c.requires.shape_in_range.0
-
 pub loop-square-init : goal.loop-square-init
-loop-square-init c = (omega arith, none_written _ _ _)
+loop-square-init c = none_written _ _ _
 
 pub put_high-next-requires : goal.put_high-next-requires
 put_high-next-requires c =
     let n = c.squares_of-squares.ensures in record {
       shape_in_range = (c.requires.shape_in_range.0, omega (arith, n, c.requires.shape_in_range.1), omega (arith, n, c.requires.shape_in_range.2), omega (arith, n, c.requires.shape_in_range.3));
       square_in_bounds = line_fits (text_of (goal.at.put_high-next-requires c).Start) (squares c.args.shape) c.args.at c.args.out.now (fits (goal.at.put_high-next-requires c).Start) c.loop-square.square
-          c.loop-square.invariant.1 (omega (arith, n));
+          c.loop-square.invariant (omega (arith, n));
     }
 
 pub loop-square-preserved : goal.loop-square-preserved
 loop-square-preserved c =
     let at-squares-of = c.squares_of-squares in
     let at-loop = c.loop-square in
-    let s = (goal.at.loop-square-preserved c).Start in (
-      omega arith,
-      line_written (text_of s) (squares s.args.shape) s.args.at s.args.out.now (fits s) at-loop.square at-loop.invariant.1
-          (omega (arith, at-squares-of.ensures)) c.put_high-next.ensures,
-    )
-
-pub shape_of-out : goal.shape_of-out
-shape_of-out c = lines_length (text_of (goal.at.shape_of-out c).Start) (squares c.args.shape) c.args.at c.args.out.now (fits (goal.at.shape_of-out c).Start) c.loop-square.square c.loop-square.invariant.1 (omega (arith, c.squares_of-squares.ensures))
+    let s = (goal.at.loop-square-preserved c).Start in
+    line_written (text_of s) (squares s.args.shape) s.args.at s.args.out.now (fits s) at-loop.square at-loop.invariant
+    (omega (arith, at-squares-of.ensures)) c.put_high-next.ensures
 
 pub returns : goal.returns
 unfolding highs_text
-returns c = lines_whole (text_of (goal.at.returns c).Start) (omega (arith, c.squares_of-squares.ensures)) c.loop-square.invariant.1
+returns c = lines_whole (text_of (goal.at.returns c).Start) (omega (arith, c.squares_of-squares.ensures)) c.loop-square.invariant

@@ -1,22 +1,14 @@
--- `peaks::running::peak_on` meets its contract: where the loop has come to, the run from there is the whole run, and the rooms hold the peaks so far.
+-- `peaks::running::peak_on` meets its contract: the rooms hold the peaks of the first state, and then each step's are kept.
 -- Assumes nothing.
-use mathlib.Core.Path.{◌≡◌, refl, sym, ◌∙◌}
-use mathlib.Core.List.{List}
-use Prim.Native.Nat.{ℕ, ◌+◌, ◌≤◌}
-use native.Mathlib.Omega.{arith}
-use lib.ListN.{length, length-replicate}
-use Rattle.grid.specs.Squares.{most_along, most_squares}
+use mathlib.Core.Path.{sym, ◌∙◌}
+use Rattle.std.proofs.Common.{rules}
 use Rattle.ledger.specs.Runs.{Plan, World, plan, world}
 use Rattle.checks.specs.Given.{Given, ground, given}
-use Rattle.flood.proofs.StepLaws.{passed_fine, part, refilled}
-use Rattle.flood.proofs.RunToLaws.{Running, running_starts, running_on, running_further, running_refused, running_ends}
-use Rattle.peaks.proofs.PeakLaws.{Peaked, peaked_long, peaked_starts, peaked_again, peaked_whole, peaked_on, clock_small, marks_even, depths_even}
+use Rattle.flood.proofs.KeptLaws.{kept_same}
+use Rattle.peaks.specs.declared.running.Peaks.{Peaks}
+use Rattle.peaks.proofs.PeakLaws.{Peaked, peaked_long, peaked_starts, peaked_again, peaked_whole, peaks_kept, clock_small, marks_even, depths_even}
 use Rattle.peaks.proofs.running.peak_on.Goals as goal
-use Rattle.peaks.proofs.running.peak_on.Goals.{After-raise, Else-refused-ne0, In-loop-at, Start}
-
--- ---- the places, each by the one before it
-
--- ---- what is known at the start
+use Rattle.peaks.proofs.running.peak_on.Goals.{After-raise, Start}
 
 abbrev p : Start → Plan
 p s = plan s.args.way.shape s.args.marks.now
@@ -28,194 +20,46 @@ g s =
 abbrev w : Start → World
 w s = world s.args.depths.now s.args.lasts.now s.args.records.now s.args.run
 
--- one number a square in each room
-even-rooms :
-    (s : Start) →
-    (length s.args.depths.now ≡ length s.args.marks.now) × (length s.args.peaks.now ≡ length s.args.marks.now) × (length s.args.clocks.now ≡ length s.args.marks.now)
-even-rooms s =
-    let m = marks_even (p s) (g s) (w s) s.requires.passes.checked in
-    (depths_even (p s) (g s) (w s) s.requires.passes.checked ∙ sym m, s.requires.peaks_len.0 ∙ sym m, s.requires.peaks_len.1 ∙ sym m)
-
--- ---- after the starting state
-
-abbrev peaks-raised : After-raise → List ℕ
-peaks-raised c = c.raise.new.peaks
-
-abbrev clocks-raised : After-raise → List ℕ
-clocks-raised c = c.raise.new.clocks
-
+-- the starting state
 starting :
     (c : After-raise) →
-    Peaked (p (goal.at.After-raise c).Start) (g (goal.at.After-raise c).Start) (w (goal.at.After-raise c).Start) c.args.peaks.now c.args.clocks.now (w (goal.at.After-raise c).Start) 0 (peaks-raised c) (clocks-raised c)
+    let s = (goal.at.After-raise c).Start in
+    Peaked (p s) (g s) (w s) c.args.peaks.now c.args.clocks.now (w s) 0 c.raise.new.peaks c.raise.new.clocks
 starting c =
-    peaked_starts (p (goal.at.After-raise c).Start) (g (goal.at.After-raise c).Start) (w (goal.at.After-raise c).Start) c.args.peaks.now c.args.clocks.now (marks_even (p (goal.at.After-raise c).Start) (g (goal.at.After-raise c).Start) (w (goal.at.After-raise c).Start) c.requires.passes.checked) c.raise.ensures
-
-long-peaks : (c : After-raise) → length (peaks-raised c) ≡ length c.args.peaks.now
-long-peaks c = (peaked_long _ _ _ _ _ (starting c)).0
-
-long-clocks : (c : After-raise) → length (clocks-raised c) ≡ length c.args.clocks.now
-long-clocks c = (peaked_long _ _ _ _ _ (starting c)).1
-
-even-entry : (c : After-raise) → length (peaks-raised c) ≡ length (clocks-raised c)
-even-entry c =
-    let even = even-rooms (goal.at.After-raise c).Start in
-    long-peaks c ∙ (even.1 ∙ sym (long-clocks c ∙ even.2))
-
--- ---- in a turn
-
-squares_fit : (c : In-loop-at) → c.squares_of-squares.result ≤ most_squares
-squares_fit c = omega (arith, c.squares_of-squares.ensures, (passed_fine c.requires.passes).few)
-
-rows_fit : (c : In-loop-at) → c.args.way.shape.rows ≤ most_along
-rows_fit c = (passed_fine c.requires.passes).rows_high
-
--- ---- the answers
-
-pub squares_of-squares-requires : goal.squares_of-squares-requires
-squares_of-squares-requires c = passed_fine c.requires.passes
+    let s = (goal.at.After-raise c).Start in
+    peaked_starts (p s) (g s) (w s) c.args.peaks.now c.args.clocks.now (marks_even (p s) (g s) (w s) s.requires.passes.checked) c.raise.ensures
 
 pub overflow_cast-run : goal.overflow_cast-run
-overflow_cast-run c = record { fits = clock_small (p (goal.at.overflow_cast-run c).Start) (g (goal.at.overflow_cast-run c).Start) (w (goal.at.overflow_cast-run c).Start) c.requires.passes.checked }
+overflow_cast-run c =
+    let s = (goal.at.overflow_cast-run c).Start in
+    record { fits = clock_small (p s) (g s) (w s) c.requires.passes.checked }
 
 pub raise-requires : goal.raise-requires
-raise-requires c = even-rooms (goal.at.raise-requires c).Start
+raise-requires c =
+    let s = (goal.at.raise-requires c).Start in
+    let m = marks_even (p s) (g s) (w s) s.requires.passes.checked in
+    (depths_even (p s) (g s) (w s) s.requires.passes.checked ∙ sym m, c.requires.peaks_len.0 ∙ sym m, c.requires.peaks_len.1 ∙ sym m)
 
-pub loop-at-init : goal.loop-at-init
-loop-at-init c = (
-  running_starts (p (goal.at.loop-at-init c).Start) (g (goal.at.loop-at-init c).Start) c.args.end (w (goal.at.loop-at-init c).Start) c.requires.passes.checked,
-  peaked_again (p (goal.at.loop-at-init c).Start) (g (goal.at.loop-at-init c).Start) (w (goal.at.loop-at-init c).Start) (starting (goal.at.loop-at-init c).After-raise),
-  refl,
-  refl,
-  refl,
-  length-replicate {A = ℕ} most_squares 0,
-  length-replicate {A = ℕ} most_along 0,
-  length-replicate {A = ℕ} most_along 0,
-  length-replicate {A = ℕ} most_squares 0,
-)
-
-pub slice_bounds-left-end : goal.slice_bounds-left-end
-slice_bounds-left-end c = omega (arith, squares_fit (goal.at.slice_bounds-left-end c).In-loop-at, c.loop-at.invariant.5)
-
-pub slice_bounds-step_on-end : goal.slice_bounds-step_on-end
-slice_bounds-step_on-end c = sym (part c.loop-at.left c.loop-at.invariant.5 (squares_fit (goal.at.slice_bounds-step_on-end c).In-loop-at))
-
-pub slice_bounds-worked-end : goal.slice_bounds-worked-end
-slice_bounds-worked-end c = omega (arith, rows_fit (goal.at.slice_bounds-worked-end c).In-loop-at, c.loop-at.invariant.6)
-
-pub slice_bounds-step_on-end-in-loop-at : goal.slice_bounds-step_on-end-in-loop-at
-slice_bounds-step_on-end-in-loop-at c = sym (part c.loop-at.worked c.loop-at.invariant.6 (rows_fit (goal.at.slice_bounds-step_on-end-in-loop-at c).In-loop-at))
-
-pub slice_bounds-senders-end : goal.slice_bounds-senders-end
-slice_bounds-senders-end c = omega (arith, rows_fit (goal.at.slice_bounds-senders-end c).In-loop-at, c.loop-at.invariant.7)
-
-pub slice_bounds-step_on-end-in-loop-at-2 : goal.slice_bounds-step_on-end-in-loop-at-2
-slice_bounds-step_on-end-in-loop-at-2 c = sym (part c.loop-at.senders c.loop-at.invariant.7 (rows_fit (goal.at.slice_bounds-step_on-end-in-loop-at-2 c).In-loop-at))
-
-pub slice_bounds-room-end : goal.slice_bounds-room-end
-slice_bounds-room-end c = omega (arith, squares_fit (goal.at.slice_bounds-room-end c).In-loop-at, c.loop-at.invariant.8)
-
-pub slice_bounds-step_on-end-in-loop-at-3 : goal.slice_bounds-step_on-end-in-loop-at-3
-slice_bounds-step_on-end-in-loop-at-3 c = sym (part c.loop-at.room c.loop-at.invariant.8 (squares_fit (goal.at.slice_bounds-step_on-end-in-loop-at-3 c).In-loop-at))
-
-pub step_on-made-requires : goal.step_on-made-requires
-step_on-made-requires c =
-    let inv = c.loop-at.invariant in
-    let many = c.squares_of-squares.ensures in record {
-      passes = record { checked = inv.0.valid };
-      rooms_lent = (
-        record {
-          left_long = part c.loop-at.left inv.5 (squares_fit (goal.at.step_on-made-requires c).In-loop-at) ∙ many;
-          worked_long = part c.loop-at.worked inv.6 (rows_fit (goal.at.step_on-made-requires c).In-loop-at);
-          senders_long = part c.loop-at.senders inv.7 (rows_fit (goal.at.step_on-made-requires c).In-loop-at);
-          room_long = part c.loop-at.room inv.8 (squares_fit (goal.at.step_on-made-requires c).In-loop-at) ∙ many;
-        },
-        c.requires.apart_value.0,
-      );
-    }
-
-pub shape_of-peaks-then-refused-ne0 : goal.shape_of-peaks-then-refused-ne0
-shape_of-peaks-then-refused-ne0 c = (peaked_long _ _ _ _ _ c.loop-at.invariant.1).0 ∙ long-peaks (goal.at.shape_of-peaks-then-refused-ne0 c).After-raise
-
-pub shape_of-clocks-then-refused-ne0 : goal.shape_of-clocks-then-refused-ne0
-shape_of-clocks-then-refused-ne0 c = (peaked_long _ _ _ _ _ c.loop-at.invariant.1).1 ∙ long-clocks (goal.at.shape_of-clocks-then-refused-ne0 c).After-raise
-
-pub returns-then-refused-ne0 : goal.returns-then-refused-ne0
-returns-then-refused-ne0 c =
-    let r = peaked_whole (p (goal.at.returns-then-refused-ne0 c).Start) (g (goal.at.returns-then-refused-ne0 c).Start) (w (goal.at.returns-then-refused-ne0 c).Start) (starting (goal.at.returns-then-refused-ne0 c).After-raise) c.loop-at.invariant.1 in
-    record {
-      ends = running_refused (p (goal.at.returns-then-refused-ne0 c).Start) (g (goal.at.returns-then-refused-ne0 c).Start) c.args.end c.loop-at.invariant.0 c.loop-at-test.true c.step_on-made.ensures c.if-refused-ne0.true;
-      peaks_are = r.peaks_are;
-      clocks_are = r.clocks_are;
-    }
-
--- the run goes on after a step that was made
-goes_on :
-    (c : Else-refused-ne0) →
-    Running (p (goal.at.Else-refused-ne0 c).Start) (g (goal.at.Else-refused-ne0 c).Start) c.args.end (w (goal.at.Else-refused-ne0 c).Start)
-    (world c.step_on-made.new.depths c.step_on-made.new.lasts c.step_on-made.new.records c.step_on-made.result.run)
-    (c.loop-at.steps + 1)
-goes_on c =
-    running_on (p (goal.at.Else-refused-ne0 c).Start) (g (goal.at.Else-refused-ne0 c).Start) c.args.end c.loop-at.invariant.0 c.loop-at-test.true c.step_on-made.ensures c.if-refused-ne0.false
-
-pub overflow_cast-after : goal.overflow_cast-after
-overflow_cast-after c = record { fits = clock_small (p (goal.at.overflow_cast-after c).Start) (g (goal.at.overflow_cast-after c).Start) _ (goes_on (goal.at.overflow_cast-after c).Else-refused-ne0).valid }
-
-pub raise-requires-in-loop-at : goal.raise-requires-in-loop-at
-raise-requires-in-loop-at c =
-    let long = peaked_long _ _ _ _ _ c.loop-at.invariant.1 in
-    let even = even-rooms (goal.at.raise-requires-in-loop-at c).Start in
-    let now = (goes_on (goal.at.raise-requires-in-loop-at c).Else-refused-ne0).valid in (
-      depths_even (p (goal.at.raise-requires-in-loop-at c).Start) (g (goal.at.raise-requires-in-loop-at c).Start) _ now ∙ sym (marks_even (p (goal.at.raise-requires-in-loop-at c).Start) (g (goal.at.raise-requires-in-loop-at c).Start) _ now),
-      long.0 ∙ (long-peaks (goal.at.raise-requires-in-loop-at c).After-raise ∙ even.1),
-      long.1 ∙ (long-clocks (goal.at.raise-requires-in-loop-at c).After-raise ∙ even.2),
-    )
-
-pub overflow_add-steps : goal.overflow_add-steps
-overflow_add-steps c = omega (arith, c.loop-at.invariant.0.few, c.requires.apart_value.1, c.loop-at-test.true)
-
-pub loop-at-smaller : goal.loop-at-smaller
-loop-at-smaller c =
-    omega (
-      arith,
-      running_further (p (goal.at.loop-at-smaller c).Start) (g (goal.at.loop-at-smaller c).Start) c.args.end c.loop-at.invariant.0 c.loop-at-test.true c.step_on-made.ensures c.if-refused-ne0.false,
-      c.loop-at-test.true,
-    )
-
-pub loop-at-preserved : goal.loop-at-preserved
-loop-at-preserved c =
-    let inv = c.loop-at.invariant in
-    let last = c.step_on-made.new in
-    let kept = c.step_on-made.auto in
-    let rooms = kept in (
-      goes_on (goal.at.loop-at-preserved c).Else-refused-ne0,
-      peaked_on (p (goal.at.loop-at-preserved c).Start) (g (goal.at.loop-at-preserved c).Start) (w (goal.at.loop-at-preserved c).Start) _ _ (marks_even (p (goal.at.loop-at-preserved c).Start) (g (goal.at.loop-at-preserved c).Start) (w (goal.at.loop-at-preserved c).Start) c.requires.passes.checked) inv.1 c.step_on-made.ensures.world_is (even-entry (goal.at.loop-at-preserved c).After-raise) c.raise-in-loop-at.ensures,
-      kept.depths ∙ inv.2,
-      kept.lasts ∙ inv.3,
-      kept.records ∙ inv.4,
-      refilled last.left c.loop-at.left rooms.left inv.5 (squares_fit (goal.at.loop-at-preserved c).In-loop-at),
-      refilled last.worked c.loop-at.worked rooms.worked inv.6 (rows_fit (goal.at.loop-at-preserved c).In-loop-at),
-      refilled last.senders c.loop-at.senders rooms.senders inv.7 (rows_fit (goal.at.loop-at-preserved c).In-loop-at),
-      refilled last.room c.loop-at.room rooms.room inv.8 (squares_fit (goal.at.loop-at-preserved c).In-loop-at),
-    )
-
--- ---- at the end
-
-pub shape_of-depths : goal.shape_of-depths
-shape_of-depths c = c.loop-at.invariant.2
-
-pub shape_of-lasts : goal.shape_of-lasts
-shape_of-lasts c = c.loop-at.invariant.3
-
-pub shape_of-records : goal.shape_of-records
-shape_of-records c = c.loop-at.invariant.4
-
-pub shape_of-peaks : goal.shape_of-peaks
-shape_of-peaks c = (peaked_long _ _ _ _ _ c.loop-at.invariant.1).0 ∙ long-peaks (goal.at.shape_of-peaks c).After-raise
-
-pub shape_of-clocks : goal.shape_of-clocks
-shape_of-clocks c = (peaked_long _ _ _ _ _ c.loop-at.invariant.1).1 ∙ long-clocks (goal.at.shape_of-clocks c).After-raise
+pub run_kept-requires-clause-kept_fits : goal.run_kept-requires-clause-kept_fits
+run_kept-requires-clause-kept_fits c =
+    let s = (goal.at.run_kept-requires-clause-kept_fits c).Start in
+    let m = marks_even (p s) (g s) (w s) s.requires.passes.checked in
+    let long = peaked_long _ _ _ _ _ (starting (goal.at.run_kept-requires-clause-kept_fits c).After-raise) in
+    (long.0 ∙ (c.requires.peaks_len.0 ∙ sym m), long.1 ∙ (c.requires.peaks_len.1 ∙ sym m))
 
 pub returns : goal.returns
 returns c =
-    let r = peaked_whole (p (goal.at.returns c).Start) (g (goal.at.returns c).Start) (w (goal.at.returns c).Start) (starting (goal.at.returns c).After-raise) c.loop-at.invariant.1 in
-    record { ends = running_ends (p (goal.at.returns c).Start) (g (goal.at.returns c).Start) c.args.end c.loop-at.invariant.0 c.loop-at-test.false; peaks_are = r.peaks_are; clocks_are = r.clocks_are }
+    let s = (goal.at.returns c).Start in
+    let first = starting (goal.at.returns c).After-raise in
+    let long = peaked_long _ _ _ _ _ first in
+    let kept = c.run_kept.ensures.kept in
+    let steps = c.run_kept.result.steps in
+    let peaks = kept_same _ (p s) (g s) (w s) (λ (t : Peaks). t.peaks.ghost_name) (λ depths before clock t t' e. e.0) steps kept in
+    let clocks = kept_same _ (p s) (g s) (w s) (λ (t : Peaks). t.clocks.ghost_name) (λ depths before clock t t' e. e.1) steps kept in
+    let all =
+    peaked_whole (p s) (g s) (w s) first
+    (peaks_kept (p s) (g s) (w s) (marks_even (p s) (g s) (w s) s.requires.passes.checked) _ (λ (t : Peaks). t.peaks.now) (λ (t : Peaks). t.clocks.now)
+    (λ depths before clock t t' e. e.2) steps (long.0 ∙ (c.requires.peaks_len.0 ∙ sym (long.1 ∙ c.requires.peaks_len.1))) (peaked_again (p s) (g s) (w s) first) kept) in
+    let at-peaks = all.peaks_are in
+    let at-clocks = all.clocks_are in
+    record { ends = c.run_kept.ensures.ends; peaks_are = search rules; clocks_are = search rules }

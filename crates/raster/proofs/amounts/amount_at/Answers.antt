@@ -5,18 +5,17 @@ use Rattle.text.proofs.RoundTrip.{number_only}
 use Rattle.raster.proofs.AmountLaws.{amount_known, amount_none}
 use Rattle.raster.proofs.amounts.amount_at.Goals as goal
 
-pub returns-in_default : goal.returns-in_default
-returns-in_default c =
+pub returns-in_err-whole : goal.returns-in_err-whole
+returns-in_err-whole c =
     let a = c.args in
-    sym (amount_none a.scale a.text.now a.at (sym c.number_at.ensures ∙ c.in_default.is))
+    c.from_residual.ensures ∙ sym (amount_none a.scale a.text.now a.at (sym c.in_err-whole.ensures))
 
 pub decimals_after-requires : goal.decimals_after-requires
 decimals_after-requires c =
     let a = c.args in
-    (c.places_of.ensures.1, (number_only a.text.now a.at (sym c.number_at.ensures ∙ c.in-Is.is)).alone)
+    (c.places_of.ensures.1, (number_only a.text.now a.at (sym c.in_ok-whole.ensures)).alone)
 
 pub returns : goal.returns
 returns c =
     let a = c.args in
-    amount_known a.scale a.text.now a.at c.places_of.ensures.0 c.decimals_after.ensures
-    (sym c.number_at.ensures ∙ c.in-Is.is)
+    amount_known a.scale a.text.now a.at c.places_of.ensures.0 c.decimals_after.ensures (sym c.in_ok-whole.ensures)

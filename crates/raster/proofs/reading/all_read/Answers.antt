@@ -1,27 +1,30 @@
--- `raster::reading::all_read` meets its contract: each of the three tests.
+-- `raster::reading::all_read` meets its contract: a header, all of its squares, and the end of the text.
 -- Assumes nothing.
-use mathlib.Core.Path.{sym}
-use lib.Dec.{leb}
-use lib.ListN.{length}
-use borrow.Author.Tests.{not-true, not-false}
-use Rattle.reckon.proofs.TestLaws.{and_false}
-use Rattle.raster.proofs.SpaceLaws.{and_no}
-use Rattle.raster.proofs.SquareLaws.{all_three}
+use mathlib.Core.Path.{sym, ap, subst}
+use Rattle.std.proofs.lemmas.Result.{err_from_is_err_and}
+use Rattle.raster.specs.Raster.{head_or}
+use Rattle.raster.proofs.RangeLaws.{ShapeSmall, head_small}
+use Rattle.raster.proofs.SquareLaws.{head_bad, squares_bad, more_bad, none_bad}
 use Rattle.raster.proofs.reading.all_read.Goals as goal
 
-pub returns-then-not-found : goal.returns-then-not-found
-returns-then-not-found c =
-    let a = c.args in
-    sym (and_no a.found _ c.if-not-found.true)
+pub returns-in_err-head : goal.returns-in_err-head
+returns-in_err-head c =
+    let p = err_from_is_err_and c.from_residual.result c.from_residual.ensures.1 in
+    rw (p.1, p.2) (head_bad _ _ c.in_err-head.ensures)
 
-pub returns-then-not-stop : goal.returns-then-not-stop
-returns-then-not-stop c =
-    let a = c.args in
-    sym (and_false a.found _ (and_no a.stop.all _ (not-true a.stop.all c.if-not-stop.true)))
+pub squares_end-requires : goal.squares_end-requires
+squares_end-requires c =
+    let small = subst ShapeSmall (sym (ap head_or c.in_ok-head.ensures)) (head_small c.args.text.now) in
+    (small.rows, small.columns)
+
+pub returns-in_err-end : goal.returns-in_err-end
+returns-in_err-end c =
+    let r = c.from_residual-in_err-end in
+    let p = err_from_is_err_and r.result r.ensures.1 in
+    rw (p.1, p.2) (squares_bad _ _ c.in_ok-head.ensures c.in_err-end.ensures)
+
+pub returns-then-end-text : goal.returns-then-end-text
+returns-then-end-text c = more_bad _ _ c.in_ok-head.ensures c.in_ok-end.ensures c.if-end-text.true
 
 pub returns : goal.returns
-returns c =
-    let a = c.args in
-    sym
-    (all_three a.found a.stop.all (leb (length a.text.now) a.stop.next) c.if-not-found.false
-    (not-false a.stop.all c.if-not-stop.false))
+returns c = none_bad _ _ c.in_ok-head.ensures c.in_ok-end.ensures c.if-end-text.false

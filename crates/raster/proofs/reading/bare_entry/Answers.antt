@@ -18,19 +18,15 @@ pub returns-then-word_at : goal.returns-then-word_at
 unfolding bare_entry bytes_of
 returns-then-word_at c = sym (pick_true _ _ (sym c.word_at.ensures ∙ c.if-word_at.true))
 
-pub returns-in_default : goal.returns-in_default
+pub returns-in_err-amount : goal.returns-in_err-amount
 unfolding bytes_of
-returns-in_default c =
+returns-in_err-amount c =
     let a = c.args in
-    c.no_entry.ensures
-    ∙ sym
-    (bare_none a.scale a.text.now a.at (sym c.word_at.ensures ∙ c.if-word_at.false)
-    (sym c.amount_at.ensures ∙ c.in_default.is))
+    c.from_residual.ensures
+    ∙ sym (bare_none a.scale a.text.now a.at (sym c.word_at.ensures ∙ c.if-word_at.false) (sym c.in_err-amount.ensures))
 
 pub returns : goal.returns
 unfolding bytes_of
 returns c =
     let a = c.args in
-    sym
-    (bare_some a.scale a.text.now a.at (sym c.word_at.ensures ∙ c.if-word_at.false)
-    (sym c.amount_at.ensures ∙ c.in-Is.is))
+    sym (bare_some a.scale a.text.now a.at (sym c.word_at.ensures ∙ c.if-word_at.false) (sym c.in_ok-amount.ensures))

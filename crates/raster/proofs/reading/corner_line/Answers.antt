@@ -5,16 +5,12 @@ use Rattle.raster.specs.Raster.{only_zero}
 use Rattle.raster.proofs.HeadLaws.{only_none, only_kept}
 use Rattle.raster.proofs.reading.corner_line.Goals as goal
 
-pub returns-in_default : goal.returns-in_default
+pub returns-in_err-corner : goal.returns-in_err-corner
 unfolding only_zero
-returns-in_default c = sym (ap only_zero (sym c.head_line.ensures ∙ c.in_default.is))
+returns-in_err-corner c = c.from_residual.ensures ∙ ap only_zero c.in_err-corner.ensures
 
-pub returns-then-value-ne0 : goal.returns-then-value-ne0
-returns-then-value-ne0 c =
-    sym (ap only_zero (sym c.head_line.ensures ∙ c.in-Is.is) ∙ only_none _ _
-    c.if-value-ne0.true)
+pub returns-then-corner-ne0 : goal.returns-then-corner-ne0
+returns-then-corner-ne0 c = sym (sym (ap only_zero c.in_ok-corner.ensures) ∙ only_none _ _ c.if-corner-ne0.true)
 
 pub returns : goal.returns
-returns c =
-    sym (ap only_zero (sym c.head_line.ensures ∙ c.in-Is.is) ∙ only_kept _ _
-    c.if-value-ne0.false)
+returns c = sym (sym (ap only_zero c.in_ok-corner.ensures) ∙ only_kept _ _ c.if-corner-ne0.false)

@@ -8,26 +8,18 @@ use Rattle.raster.proofs.SquareLaws.{line_first, line_more, line_few}
 use Rattle.raster.proofs.reading.line_number.Goals as goal
 
 pub loop-i-init : goal.loop-i-init
-loop-i-init c = (omega arith, sym (line_first _))
+loop-i-init c = sym (line_first _)
 
 pub overflow_add-line : goal.overflow_add-line
 overflow_add-line c =
     let s = c.args.text.now in
     let i = c.loop-i.i in
-    omega (arith, c.loop-i.invariant.1, c.line_ends-line.ensures, line_more s i, line_few s (i + 1), c.well_formed.0.1)
-
-pub overflow_add-i : goal.overflow_add-i
-overflow_add-i c = omega (arith, c.loop-i-test.true)
-
-pub loop-i-smaller : goal.loop-i-smaller
-loop-i-smaller c = omega (arith, c.loop-i-test.true)
+    omega (arith, c.loop-i.invariant, c.line_ends-line.ensures, line_more s i, line_few s (i + 1), c.well_formed.0.1)
 
 pub loop-i-preserved : goal.loop-i-preserved
-loop-i-preserved c =
-    let s = c.args.text.now in
-    (omega (arith, c.loop-i-test.true), omega (arith, c.loop-i.invariant.1, c.line_ends-line.ensures, line_more s c.loop-i.i))
+loop-i-preserved c = omega (arith, c.loop-i.invariant, c.line_ends-line.ensures, line_more c.args.text.now c.loop-i.i)
 
 pub returns : goal.returns
 returns c =
-    let e : c.loop-i.i ≡ c.args.at = omega (arith, c.loop-i.invariant.0, c.loop-i-test.false) in
-    c.loop-i.invariant.1 ∙ ap (line_number c.args.text.now) e
+    let e : c.loop-i.i ≡ c.args.at = omega arith in
+    c.loop-i.invariant ∙ ap (line_number c.args.text.now) e

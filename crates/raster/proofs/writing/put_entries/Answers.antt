@@ -16,42 +16,33 @@ pub squares_of-squares-requires : goal.squares_of-squares-requires
 squares_of-squares-requires c = c.requires.shape_in_range.0
 
 pub loop-square-init : goal.loop-square-init
-loop-square-init c = (omega arith, none_written _ _ _)
+loop-square-init c = none_written _ _ _
 
 pub put_entry-next-requires : goal.put_entry-next-requires
 put_entry-next-requires c =
     let n = c.squares_of-squares.ensures in record {
       columns_nonzero = (
         c.requires.shape_in_range.0.columns_low,
-        omega (arith, n, c.requires.shape_in_range.0.few, c.loop-square-test.true),
-        omega (arith, n, c.requires.shape_in_range.1, c.loop-square-test.true),
-        omega (arith, n, c.requires.shape_in_range.2, c.loop-square-test.true),
+        omega (arith, n, c.requires.shape_in_range.0.few),
+        omega (arith, n, c.requires.shape_in_range.1),
+        omega (arith, n, c.requires.shape_in_range.2),
       );
-      square_in_bounds = line_fits (texts (goal.at.put_entry-next-requires c).Start) (squares c.args.shape) c.args.at c.args.room.now c.requires.values_in_bounds c.loop-square.square
-          c.loop-square.invariant.1
-          (omega (arith, n, c.loop-square-test.true));
+      square_in_bounds =
+          line_fits (texts (goal.at.put_entry-next-requires c).Start) (squares c.args.shape) c.args.at c.args.room.now
+          c.requires.values_in_bounds c.loop-square.square c.loop-square.invariant (omega (arith, n));
     }
 
-pub overflow_add-square : goal.overflow_add-square
-overflow_add-square c = omega (arith, c.loop-square-test.true)
-
-pub loop-square-smaller : goal.loop-square-smaller
-loop-square-smaller c = omega (arith, c.loop-square-test.true)
-
 pub loop-square-preserved : goal.loop-square-preserved
-loop-square-preserved c = (
-  omega (arith, c.loop-square-test.true),
-  line_written (texts (goal.at.loop-square-preserved c).Start) (squares c.args.shape) c.args.at
-      c.args.room.now c.requires.values_in_bounds
-      c.loop-square.square c.loop-square.invariant.1 (omega (arith, c.squares_of-squares.ensures, c.loop-square-test.true))
-      c.put_entry-next.ensures,
-)
+loop-square-preserved c =
+    line_written (texts (goal.at.loop-square-preserved c).Start) (squares c.args.shape) c.args.at
+    c.args.room.now c.requires.values_in_bounds c.loop-square.square c.loop-square.invariant
+    (omega (arith, c.squares_of-squares.ensures)) c.put_entry-next.ensures
 
 pub shape_of-room : goal.shape_of-room
 shape_of-room c =
-    lines_length (texts (goal.at.shape_of-room c).Start) (squares c.args.shape) c.args.at c.args.room.now c.requires.values_in_bounds c.loop-square.square
-    c.loop-square.invariant.1
-    (omega (arith, c.squares_of-squares.ensures, c.loop-square.invariant.0))
+    lines_length (texts (goal.at.shape_of-room c).Start) (squares c.args.shape) c.args.at c.args.room.now
+    c.requires.values_in_bounds c.loop-square.square c.loop-square.invariant (omega (arith, c.squares_of-squares.ensures))
 
 pub returns : goal.returns
-returns c = lines_whole (texts (goal.at.returns c).Start) (omega (arith, c.squares_of-squares.ensures, c.loop-square.invariant.0, c.loop-square-test.false)) c.loop-square.invariant.1
+returns c =
+    lines_whole (texts (goal.at.returns c).Start) (omega (arith, c.squares_of-squares.ensures)) c.loop-square.invariant

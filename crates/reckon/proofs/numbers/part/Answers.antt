@@ -1,6 +1,5 @@
 -- `reckon::numbers::part` meets its contract: from y on all of d is taken, and below y the product is below y * d.
 -- Assumes nothing.
-use native.Mathlib.Nat.{lt_of_le_of_lt, le_of_lt, mul-le-mul_right}
 use Rattle.reckon.proofs.QuotientLaws.{part_all, part_some}
 use Rattle.reckon.proofs.numbers.part.Goals as goal
 
@@ -8,9 +7,6 @@ pub returns-then-y-x : goal.returns-then-y-x
 returns-then-y-x c =
     let a = c.args in
     part_all a.d a.x a.y c.requires.0 c.if-y-x.true
-
-pub overflow_mul-result : goal.overflow_mul-result
-overflow_mul-result c = record { fits = lt_of_le_of_lt (mul-le-mul_right c.args.d (le_of_lt c.if-y-x.false)) c.requires.1 }
 
 pub returns : goal.returns
 returns c =

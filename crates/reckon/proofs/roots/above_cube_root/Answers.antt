@@ -4,12 +4,6 @@ use native.Mathlib.Omega.{arith}
 use Rattle.reckon.proofs.PlaceLaws.{above_at}
 use Rattle.reckon.proofs.roots.above_cube_root.Goals as goal
 
-pub returns-then-n-lt1 : goal.returns-then-n-lt1
-returns-then-n-lt1 c = above_at 0 (omega arith) (omega arith)
-
-pub returns-then-n-lt1000 : goal.returns-then-n-lt1000
-returns-then-n-lt1000 c = above_at 1 (omega arith) (omega arith)
-
 pub returns-then-n-lt1000000 : goal.returns-then-n-lt1000000
 returns-then-n-lt1000000 c = above_at 2 (omega arith) (omega arith)
 

@@ -4,7 +4,7 @@ use mathlib.Core.Path.{refl}
 use native.Mathlib.Omega.{arith}
 use Rattle.reckon.specs.Inner.RootSearch.{Place}
 use Rattle.reckon.proofs.RootLaws.{zero_pow}
-use Rattle.reckon.proofs.PlaceLaws.{cubes, ones}
+use Rattle.reckon.proofs.PlaceLaws.{cubes}
 use Rattle.reckon.proofs.roots.cube_root.Goals as goal
 
 tens : Place 3 10
@@ -21,9 +21,3 @@ with_digit-thousands-requires c = (record { power = cubes; small = c.requires },
 
 pub with_digit-hundreds-requires : goal.with_digit-hundreds-requires
 with_digit-hundreds-requires c = (record { power = cubes; small = c.requires }, c.above_cube_root-above.ensures, (2, refl), c.with_digit-thousands.ensures.fits)
-
-pub raise_digit-tens-requires : goal.raise_digit-tens-requires
-raise_digit-tens-requires c = (record { power = cubes; small = c.requires }, tens, c.with_digit-hundreds.ensures.fits)
-
-pub raise_digit-requires : goal.raise_digit-requires
-raise_digit-requires c = (record { power = cubes; small = c.requires }, ones cubes, c.raise_digit-tens.ensures.fits)

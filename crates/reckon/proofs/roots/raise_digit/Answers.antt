@@ -8,9 +8,6 @@ use Rattle.reckon.proofs.PlaceLaws.{ten_pos, trial_fits}
 use Rattle.reckon.proofs.roots.raise_digit.Goals as goal
 use Rattle.reckon.proofs.roots.raise_digit.Goals.{At-loop-root, In-loop-root}
 
-pub loop-root-init : goal.loop-root-init
-loop-root-init c = c.requires.2
-
 -- what is tried fits, and so does its power
 trial : (c : At-loop-root) → (c.loop-root.root + c.args.place) ^ c.args.p < 2 ^ 64
 trial c = trial_fits c.args.place c.loop-root.root c.requires.0 c.requires.1 c.loop-root.invariant

@@ -25,9 +25,3 @@ with_digit-thousands-requires c = (record { power = squares; small = c.requires 
 
 pub with_digit-hundreds-requires : goal.with_digit-hundreds-requires
 with_digit-hundreds-requires c = (record { power = squares; small = c.requires }, c.above_square_root-above.ensures, (2, refl), c.with_digit-thousands.ensures.fits)
-
-pub with_digit-tens-requires : goal.with_digit-tens-requires
-with_digit-tens-requires c = (record { power = squares; small = c.requires }, c.above_square_root-above.ensures, (1, refl), c.with_digit-hundreds.ensures.fits)
-
-pub with_digit-requires : goal.with_digit-requires
-with_digit-requires c = (record { power = squares; small = c.requires }, c.above_square_root-above.ensures, (0, refl), c.with_digit-tens.ensures.fits)

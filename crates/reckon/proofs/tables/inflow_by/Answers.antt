@@ -2,7 +2,6 @@
 -- Assumes nothing.
 use mathlib.Core.Path.{sym, ◌∙◌, ap₂}
 use Prim.Native.Nat.{ℕ, ◌+◌}
-use native.Mathlib.Nat.{mul-le-mul, mul-pos}
 use native.Mathlib.Omega.{arith}
 use Rattle.reckon.specs.Tables.{inflow_kind, on_square}
 use Rattle.reckon.proofs.ListLaws.{sum_none, sum_more}
@@ -10,10 +9,7 @@ use Rattle.reckon.proofs.TableLaws.{term_le, terms_le, inflow_made}
 use Rattle.reckon.proofs.tables.inflow_by.Goals as goal
 
 pub loop-j-init : goal.loop-j-init
-loop-j-init c = (omega arith, omega arith, sym (sum_none _))
-
-pub inflow_row-sum-requires : goal.inflow_row-sum-requires
-inflow_row-sum-requires c = (omega arith, c.requires.fits)
+loop-j-init c = sym (sum_none _)
 
 pub overflow_add-sum : goal.overflow_add-sum
 overflow_add-sum c =
@@ -27,19 +23,9 @@ overflow_add-sum c =
     )
 
 pub loop-j-preserved : goal.loop-j-preserved
-loop-j-preserved c = (
-  omega arith,
-  omega arith,
-  ap₂ (λ (x y : ℕ). x + y) c.loop-j.invariant.2 c.inflow_row-sum.ensures ∙ sym (sum_more _ _),
-)
-
-pub overflow_mul-result : goal.overflow_mul-result
-overflow_mul-result c = omega (arith, mul-le-mul c.requires.side_nonzero.1 c.requires.side_nonzero.1)
-
-pub nonzero_div-result : goal.nonzero_div-result
-nonzero_div-result c = mul-pos c.requires.side_nonzero.0 c.requires.side_nonzero.0
+loop-j-preserved c = ap₂ (λ (x y : ℕ). x + y) c.loop-j.invariant c.inflow_row-sum.ensures ∙ sym (sum_more _ _)
 
 pub returns : goal.returns
 returns c =
     let a = c.args in
-    inflow_made a.rows.now a.r a.c a.side a.t c.loop-j.invariant.2 (omega arith)
+    inflow_made a.rows.now a.r a.c a.side a.t c.loop-j.invariant (omega arith)

@@ -11,7 +11,7 @@ use Rattle.reckon.proofs.TableLaws.{term_le, terms_le, rain_term}
 use Rattle.reckon.proofs.tables.rain_by.Goals as goal
 
 pub loop-j-init : goal.loop-j-init
-loop-j-init c = (omega arith, omega arith, sym (sum_none _))
+loop-j-init c = sym (sum_none _)
 
 pub row_gives-sum-requires : goal.row_gives-sum-requires
 row_gives-sum-requires c =
@@ -30,12 +30,8 @@ overflow_add-sum c =
     )
 
 pub loop-j-preserved : goal.loop-j-preserved
-loop-j-preserved c = (
-  omega arith,
-  omega arith,
-  ap₂ (λ (x y : ℕ). x + y) c.loop-j.invariant.2 (c.row_gives-sum.ensures ∙ rain_term _ _ _) ∙ sym (sum_more _ _),
-)
+loop-j-preserved c = ap₂ (λ (x y : ℕ). x + y) c.loop-j.invariant (c.row_gives-sum.ensures ∙ rain_term _ _ _) ∙ sym (sum_more _ _)
 
 pub returns : goal.returns
 unfolding rain_by table_gives
-returns c = ap (λ (s : ℕ). s / 3600000) (sum_whole _ c.loop-j.invariant.2 (omega arith))
+returns c = ap (λ (s : ℕ). s / 3600000) (sum_whole _ c.loop-j.invariant (omega arith))

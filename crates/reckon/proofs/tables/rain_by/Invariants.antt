@@ -1,14 +1,9 @@
 use mathlib.Core.Path.{◌≡◌}
 use mathlib.Core.Bool.{true}
-use Prim.Native.Nat.{◌-◌, ◌/◌, ◌≤◌}
-use lib.ListN.{length}
 use Rattle.reckon.specs.Lists.{sum_below}
 use Rattle.reckon.specs.Tables.{rain_kind}
 use Rattle.reckon.proofs.TableLaws.{term}
 use Rattle.reckon.proofs.tables.rain_by.Given as goal
 
 abbrev pub invariant-loop-j : goal.invariant-loop-j
-invariant-loop-j l = (l.j ≤ l.n) × (l.n ≡ length l.rows / rain_kind.width) × (l.sum ≡ sum_below l.j (term rain_kind (λ i. true) l.rows l.t))
-
-abbrev pub decreases-loop-j : goal.decreases-loop-j
-decreases-loop-j l = l.n - l.j
+invariant-loop-j l = l.sum ≡ sum_below l.j (term rain_kind (λ i. true) l.rows l.t)

@@ -2,7 +2,6 @@
 -- Assumes nothing.
 use mathlib.Core.Path.{sym, ◌∙◌}
 use Prim.Native.Nat.{ℕ, ◌*◌, ◌≤◌}
-use native.Mathlib.Nat.{le_trans}
 use native.Mathlib.Omega.{arith}
 use Rattle.reckon.specs.Ranges.{most_litres, last_clock}
 use Rattle.reckon.specs.Tables.{inflow_kind, row_start, row_gives}
@@ -30,14 +29,8 @@ returns-then-not-row_on c =
     let e = sym c.row_on.ensures ∙ c.if-not-row_on.true in
     (omega (arith, pick_false (gives (goal.at.returns-then-not-row_on c).Start c.args.start) 0 e), omega (arith, pick_false (gives (goal.at.returns-then-not-row_on c).Start c.args.end) 0 e))
 
-pub row_gives-requires : goal.row_gives-requires
-row_gives-requires c = (omega arith, le_trans (c.requires.j_in_bounds.1.amounts c.args.j c.requires.j_in_bounds.0) (omega arith), c.requires.j_in_bounds.1.clock)
-
 pub overflow_add-result : goal.overflow_add-result
 overflow_add-result c = omega (arith, start_small (goal.at.overflow_add-result c).Start, c.row_gives.ensures, c.requires.j_in_bounds.0, c.requires.j_in_bounds.1.few, c.requires.start_bound.0)
-
-pub row_gives-requires-2 : goal.row_gives-requires-2
-row_gives-requires-2 c = (omega arith, le_trans (c.requires.j_in_bounds.2.amounts c.args.j c.requires.j_in_bounds.0) (omega arith), c.requires.j_in_bounds.2.clock)
 
 pub overflow_add-result-2 : goal.overflow_add-result-2
 overflow_add-result-2 c = omega (arith, end-small (goal.at.overflow_add-result-2 c).Start, c.row_gives-2.ensures, c.requires.j_in_bounds.0, c.requires.j_in_bounds.2.few, c.requires.start_bound.1)

@@ -5,14 +5,8 @@ use native.Mathlib.Nat.{mul-le-mul, mul-pos}
 use native.Mathlib.Omega.{arith}
 use Rattle.rule.proofs.WeighingLaws.{height_le, height_pos, slope_le}
 use Rattle.rule.specs.Length.{candidate}
-use Rattle.rule.proofs.LengthLaws.{area_le, rough_area_le}
+use Rattle.rule.proofs.LengthLaws.{rough_area_le}
 use Rattle.rule.proofs.length.side_candidate.Goals as goal
-
-pub overflow_mul-result-2 : goal.overflow_mul-result-2
-overflow_mul-result-2 c = omega (arith, area_le c.requires.0)
-
-pub overflow_mul-result-3 : goal.overflow_mul-result-3
-overflow_mul-result-3 c = omega (arith, rough_area_le c.requires.0)
 
 pub overflow_mul-result-4 : goal.overflow_mul-result-4
 overflow_mul-result-4 c =

@@ -1,8 +1,7 @@
 -- `rule::weighing::by_total` meets its contract: the total is the document's and at most the depth, and either way of sharing it is its own.
 -- Assumes nothing.
-use mathlib.Core.Path.{◌≡◌, sym, ◌∙◌}
+use mathlib.Core.Path.{◌≡◌}
 use native.Mathlib.Omega.{arith}
-use borrow.Author.Tests.{eqb-true}
 use Rattle.rule.specs.Inner.Totals.{total_by}
 use Rattle.rule.proofs.WeighingLaws.{least_le, greatest_le, sum_le, greatest_sum, total_le, total_made, through_made}
 use Rattle.rule.proofs.weighing.by_total.Goals as goal
@@ -30,9 +29,6 @@ total_is c =
     let a = c.args in
     total_made a.rules a.depth a.last a.roughness a.lasts a.drops c.requires.drops_nonzero c.greatest_drop-steepest.ensures
     c.least_drop-least.ensures c.drop_sum-sum.ensures c.total-all.ensures
-
-pub halves-requires : goal.halves-requires
-halves-requires c = (c.requires.drops_nonzero, eqb-true _ _ (sym c.has_one_drop.ensures ∙ c.if-has_one_drop.true) ∙ c.greatest_drop-steepest.ensures)
 
 pub returns-then-has_one_drop : goal.returns-then-has_one_drop
 returns-then-has_one_drop c = through_made _ (total_is (goal.at.returns-then-has_one_drop c).After-total-all) c.halves.ensures

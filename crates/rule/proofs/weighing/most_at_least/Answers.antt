@@ -1,17 +1,11 @@
 -- `rule::weighing::most_at_least` meets its contract: the bounds are at most the height and the slope, which let no less through.
 -- Assumes nothing.
 use Prim.Native.Nat.{◌≤◌}
-use native.Mathlib.Nat.{mul-le-mul}
 use native.Mathlib.Omega.{arith}
 use Rattle.rule.specs.Weighing.{height_of, slope_of}
 use Rattle.rule.proofs.WeighingLaws.{height_low, slope_low, slope_le, most_low}
 use Rattle.rule.proofs.weighing.most_at_least.Goals as goal
 use Rattle.rule.proofs.weighing.most_at_least.Goals.{After-low_cube_root-high, After-low_square_root-steep}
-
-pub overflow_mul-depth : goal.overflow_mul-depth
-overflow_mul-depth c =
-    let deep = c.requires.0.depth_to in
-    omega (arith, mul-le-mul deep deep)
 
 high-to : (c : After-low_cube_root-high) → c.low_cube_root-high.result ≤ height_of c.args.depth
 high-to c = height_low _ c.requires.0.depth_to c.low_cube_root-high.ensures

@@ -1,6 +1,6 @@
 -- `rule::weighing::most_by` meets its contract: the depth is at most what a part of it is held to.
 -- Assumes nothing.
-use Prim.Native.Nat.{◌*◌, ◌≤◌}
+use Prim.Native.Nat.{◌≤◌}
 use native.Mathlib.Nat.{mul-le-mul}
 use native.Mathlib.Omega.{arith}
 use Rattle.rule.proofs.WeighingLaws.{speed_le, most_made}
@@ -11,11 +11,6 @@ overflow_mul-moved c =
     let a = c.args in
     let v : c.speed.result ≤ 31320919 = omega (arith, speed_le a.high a.steep a.roughness c.requires.0.depth_to) in
     omega (arith, mul-le-mul v c.requires.3)
-
-pub part-requires : goal.part-requires
-part-requires c =
-    let w : c.args.rules.square_side * 1000000000 ≤ 100000000000 = omega arith in
-    omega (arith, mul-le-mul w c.requires.0.depth_to)
 
 pub returns : goal.returns
 returns c =

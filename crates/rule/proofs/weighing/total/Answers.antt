@@ -16,12 +16,6 @@ overflow_mul-limit c =
     in
     omega (arith, mul-le-mul limit-to o.steepest_to)
 
-pub overflow_mul-at_least : goal.overflow_mul-at_least
-overflow_mul-at_least c =
-    let o = c.requires in
-    let most-to : c.most_at_least-at_least.result ≤ most_depth = omega (arith, c.most_at_least-at_least.ensures, o.square.depth_to) in
-    omega (arith, mul-le-mul most-to o.sum_to)
-
 pub returns-then-limit-steepest : goal.returns-then-limit-steepest
 returns-then-limit-steepest c =
     let a = c.args in

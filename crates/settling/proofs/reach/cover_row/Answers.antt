@@ -9,8 +9,6 @@ use Rattle.settling.proofs.ReachLaws.{one_written, right_written, same_written, 
 use Rattle.settling.proofs.reach.cover_row.Goals as goal
 use Rattle.settling.proofs.reach.cover_row.Goals.{In-loop-column}
 
--- ---- the places, each from the one after it
-
 -- ---- what is known there
 
 -- in a turn: the column's square is on the grid
@@ -25,34 +23,9 @@ returns-then-reached-eq0 c =
     subst (λ (j : ℕ). closed c.args.marks.now j ≡ false → get_or c.args.list.now j 0 ≡ get_or c.args.from.now j 0) at
     (c.requires.where_clear (i - c.args.first) (omega arith) (ap (λ (m : ℕ). bit_at m (i - c.args.first)) c.if-reached-eq0.true ∙ zero_bit (i - c.args.first))) o)
 
-pub loop-column-init : goal.loop-column-init
-loop-column-init c = (omega arith, right_written (λ i x y o. absurd (omega arith)))
-
-pub overflow_add-first : goal.overflow_add-first
-overflow_add-first c = omega (arith, on_grid c, c.requires.shape_in_range.0.few)
-
-pub cover_one-requires : goal.cover_one-requires
-cover_one-requires c = (
-  omega (arith, on_grid (goal.at.cover_one-requires c).In-loop-column, c.requires.shape_in_range.2),
-  omega (arith, on_grid (goal.at.cover_one-requires c).In-loop-column, c.requires.shape_in_range.3),
-  omega (arith, on_grid (goal.at.cover_one-requires c).In-loop-column, c.requires.shape_in_range.4, c.loop-column.invariant.1.long),
-)
-
-pub overflow_add-column : goal.overflow_add-column
-overflow_add-column c = omega (arith, c.loop-column-test.true, c.requires.shape_in_range.0.columns_high)
-
-pub loop-column-smaller : goal.loop-column-smaller
-loop-column-smaller c = omega (arith, c.loop-column-test.true)
-
 pub loop-column-preserved : goal.loop-column-preserved
 loop-column-preserved c =
     let own =
     one_written {skips = closed c.args.marks.now} {amount = λ i. get_or c.args.from.now i 0}
-    (omega (arith, on_grid (goal.at.loop-column-preserved c).In-loop-column, c.requires.shape_in_range.4, c.loop-column.invariant.1.long)) refl c.cover_one.ensures refl in
-    (omega (arith, c.loop-column-test.true), same_written (then_written (omega arith) (omega arith) c.loop-column.invariant.1 own) (omega arith))
-
-pub shape_of-list : goal.shape_of-list
-shape_of-list c = c.loop-column.invariant.1.long
-
-pub returns : goal.returns
-returns c = same_written c.loop-column.invariant.1 (omega (arith, c.loop-column-test.false, c.loop-column.invariant.0))
+    (omega (arith, on_grid (goal.at.loop-column-preserved c).In-loop-column, c.requires.shape_in_range.4, c.loop-column.invariant.long)) refl c.cover_one.ensures refl in
+    same_written (then_written (omega arith) (omega arith) c.loop-column.invariant own) (omega arith)

@@ -5,13 +5,11 @@ use Rattle.reckon.specs.Tests.{all_below}
 use Rattle.reckon.proofs.TestLaws.{all_more, all_fails, all_whole}
 use Rattle.grid.specs.Squares.{squares}
 use Rattle.grid.specs.Inner.Visits.{Passes, Visits}
-use Rattle.grid.proofs.RestLaws.{walk_begins, walk_within, walk_turn, walk_on, walk_less, walk_over}
+use Rattle.grid.proofs.RestLaws.{walk_begins, walk_within, walk_turn, walk_on, walk_over}
 use Rattle.settling.specs.Inner.Settle.{fits_at}
 use Rattle.settling.proofs.ReachLaws.{fits_none}
 use Rattle.settling.proofs.reach.row_fits.Goals as goal
 use Rattle.settling.proofs.reach.row_fits.Goals.{After-lowest_set-column, Start}
-
--- ---- the places, each from the one after it
 
 -- ---- what is known there
 
@@ -44,14 +42,8 @@ module _ (c : After-lowest_set-column) where
   on_grid : c.args.first + column < squares c.args.shape
   on_grid = omega (arith, within, c.requires.shape_in_range.1.fits)
 
-pub within_row-rest-requires : goal.within_row-rest-requires
-within_row-rest-requires c = (c.requires.shape_in_range.0.columns_low, c.requires.shape_in_range.0.columns_high)
-
 pub loop-rest-init : goal.loop-rest-init
 loop-rest-init c = walk_begins c.requires.shape_in_range.0.columns_high c.within_row-rest.ensures (all_whole (fit (goal.at.loop-rest-init c).Start) c.requires.where_clear.1 (omega arith))
-
-pub lowest_set-column-requires : goal.lowest_set-column-requires
-lowest_set-column-requires c = omega (arith, c.loop-rest-test.true)
 
 pub overflow_add-first : goal.overflow_add-first
 overflow_add-first c = omega (arith, on_grid c, c.requires.shape_in_range.0.few)
@@ -64,12 +56,6 @@ returns-then-not-fits c =
     sym
     (all_fails (c.args.first + c.args.shape.columns) (fit (goal.at.returns-then-not-fits c).Start) (c.args.first + column (goal.at.returns-then-not-fits c).After-lowest_set-column) (omega (arith, within (goal.at.returns-then-not-fits c).After-lowest_set-column))
     (sym c.fits.ensures ∙ c.if-not-fits.true))
-
-pub without_lowest-rest-requires : goal.without_lowest-rest-requires
-without_lowest-rest-requires c = omega (arith, c.loop-rest-test.true)
-
-pub loop-rest-smaller : goal.loop-rest-smaller
-loop-rest-smaller c = walk_less c.loop-rest-test.true c.without_lowest-rest.ensures
 
 pub loop-rest-preserved : goal.loop-rest-preserved
 loop-rest-preserved c =

@@ -3,13 +3,11 @@
 use Rattle.std.proofs.Common.{◌≡◌, ℕ, ◌+◌, ◌<◌, Bool, true, List, get_or, refl, subst, arith}
 use Rattle.grid.specs.Squares.{squares}
 use Rattle.grid.specs.Inner.Visits.{Passes, Visits}
-use Rattle.grid.proofs.RestLaws.{walk_begins, walk_within, walk_turn, walk_on, walk_less, walk_over}
+use Rattle.grid.proofs.RestLaws.{walk_begins, walk_within, walk_turn, walk_on, walk_over}
 use Rattle.settling.specs.Inner.Settle.{Written, skips_in}
 use Rattle.settling.proofs.ReachLaws.{one_written, skip_written, same_written, then_written, skips_clear, skips_closed}
 use Rattle.settling.proofs.reach.write_row.Goals as goal
 use Rattle.settling.proofs.reach.write_row.Goals.{After-lowest_set-column, Start}
-
--- ---- the places, each from the one after it
 
 -- ---- what is known there
 
@@ -44,14 +42,8 @@ module _ (c : After-lowest_set-column) where
   on_grid : c.args.first + column < squares c.args.shape
   on_grid = omega (arith, within, c.requires.1.fits)
 
-pub within_row-rest-requires : goal.within_row-rest-requires
-within_row-rest-requires c = (c.requires.0.columns_low, c.requires.0.columns_high)
-
 pub loop-rest-init : goal.loop-rest-init
 loop-rest-init c = walk_begins c.requires.0.columns_high c.within_row-rest.ensures (skip_written (λ i x y. absurd (omega arith)))
-
-pub lowest_set-column-requires : goal.lowest_set-column-requires
-lowest_set-column-requires c = omega (arith, c.loop-rest-test.true)
 
 pub overflow_add-first : goal.overflow_add-first
 overflow_add-first c = omega (arith, on_grid c, c.requires.0.few)
@@ -63,12 +55,6 @@ write_one-requires c = (
   omega (arith, on_grid (goal.at.write_one-requires c).After-lowest_set-column, c.requires.4, (here (goal.at.write_one-requires c).After-lowest_set-column).held.long),
 )
 
-pub without_lowest-rest-requires : goal.without_lowest-rest-requires
-without_lowest-rest-requires c = omega (arith, c.loop-rest-test.true)
-
-pub loop-rest-smaller : goal.loop-rest-smaller
-loop-rest-smaller c = walk_less c.loop-rest-test.true c.without_lowest-rest.ensures
-
 pub loop-rest-preserved : goal.loop-rest-preserved
 loop-rest-preserved c =
     let own =
@@ -76,9 +62,6 @@ loop-rest-preserved c =
     (skips_closed c.args.marks.now c.args.first c.args.mask (column (goal.at.loop-rest-preserved c).After-lowest_set-column) ((here (goal.at.loop-rest-preserved c).After-lowest_set-column).visited (within (goal.at.loop-rest-preserved c).After-lowest_set-column))) c.write_one.ensures refl in
     walk_on c.loop-rest.invariant c.requires.0.columns_high c.loop-rest-test.true c.lowest_set-column.ensures c.without_lowest-rest.ensures
     (same_written (then_written (omega arith) (omega arith) (here (goal.at.loop-rest-preserved c).After-lowest_set-column).held own) (omega arith))
-
-pub shape_of-list : goal.shape_of-list
-shape_of-list c = c.loop-rest.invariant.held.long
 
 pub returns : goal.returns
 returns c = walk_over c.loop-rest.invariant c.requires.0.columns_high c.loop-rest-test.false (passes (goal.at.returns c).Start _ _)

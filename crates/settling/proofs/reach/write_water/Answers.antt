@@ -3,16 +3,14 @@
 -- Assumes nothing.
 use Rattle.std.proofs.Common.{◌≡◌, ◌+◌, false, get_or, refl, ◌∙◌, arith}
 use Rattle.grid.specs.Inner.Rows.{InRow}
-use Rattle.grid.proofs.SquareLaws.{rows_begin, row_here, row_next, rows_end}
+use Rattle.grid.proofs.SquareLaws.{row_here, row_next}
 use Rattle.grid.proofs.WalkLaws.{by_row}
 use Rattle.ledger.specs.Runs.{Plan, plan}
 use Rattle.ledger.specs.Flows.{shut}
 use Rattle.settling.specs.Inner.Settle.{WhereClear, reached_row, reached_at}
-use Rattle.settling.proofs.ReachLaws.{skip_written, same_written, then_written, alike_written, skips_row}
+use Rattle.settling.proofs.ReachLaws.{then_written, alike_written, skips_row}
 use Rattle.settling.proofs.reach.write_water.Goals as goal
 use Rattle.settling.proofs.reach.write_water.Goals.{After-reached-columns_reached, At-loop-row, In-loop-row}
-
--- ---- the places, each from the one after it
 
 -- ---- what is known there
 
@@ -31,20 +29,8 @@ same_at c =
     by_row c.args.shape c.loop-row.row c.loop-row.invariant.0.begins (reached_row c.args.worked.now c.args.senders.now)
     (λ i. shut (p (goal.at.After-reached-columns_reached c).At-loop-row) i ≡ false → get_or c.args.depths.now i 0 ≡ get_or c.args.room.now i 0) c.loop-row-test.true c.reached-columns_reached.ensures c.requires.worked_len.2
 
-pub loop-row-init : goal.loop-row-init
-loop-row-init c = (rows_begin _ _, skip_written (λ i x y. absurd (omega arith)), skip_written (λ i x y. absurd (omega arith)))
-
-pub offset_bounds-worked-row : goal.offset_bounds-worked-row
-offset_bounds-worked-row c = omega (arith, c.loop-row-test.true, c.requires.worked_len.0, c.requires.shape_in_range.0.rows_high)
-
-pub bounds-worked-row : goal.bounds-worked-row
-bounds-worked-row c = omega (arith, c.loop-row-test.true, c.requires.worked_len.0)
-
 pub write_row-requires : goal.write_row-requires
 write_row-requires c = (c.requires.shape_in_range.0, in_row (goal.at.write_row-requires c).In-loop-row, c.requires.shape_in_range.1, c.requires.shape_in_range.2, omega (arith, c.loop-row.invariant.1.long, c.requires.shape_in_range.4))
-
-pub reached-columns_reached-requires : goal.reached-columns_reached-requires
-reached-columns_reached-requires c = (omega (arith, c.loop-row-test.true, c.requires.worked_len.0), omega (arith, c.loop-row-test.true, c.requires.worked_len.1))
 
 pub cover_row-requires : goal.cover_row-requires
 cover_row-requires c = record {
@@ -52,15 +38,6 @@ cover_row-requires c = record {
   where_clear = (λ k l b o.
       c.loop-row.invariant.2.kept (c.loop-row.first + k) (λ x y. absurd (omega arith)) ∙ same_at (goal.at.cover_row-requires c).After-reached-columns_reached k l b o);
 }
-
-pub overflow_add-row : goal.overflow_add-row
-overflow_add-row c = omega (arith, c.loop-row-test.true, c.requires.shape_in_range.0.rows_high)
-
-pub overflow_add-first : goal.overflow_add-first
-overflow_add-first c = omega (arith, (in_row (goal.at.overflow_add-first c).In-loop-row).fits, c.requires.shape_in_range.0.few)
-
-pub loop-row-smaller : goal.loop-row-smaller
-loop-row-smaller c = omega (arith, c.loop-row-test.true)
 
 pub loop-row-preserved : goal.loop-row-preserved
 loop-row-preserved c =
@@ -70,14 +47,3 @@ loop-row-preserved c =
           (alike_written (skips_row (p (goal.at.loop-row-preserved c).At-loop-row) c.loop-row.row begins c.args.worked.now refl) c.write_row.ensures),
       then_written (omega arith) (omega arith) c.loop-row.invariant.2 c.cover_row.ensures,
     )
-
-pub shape_of-lasts : goal.shape_of-lasts
-shape_of-lasts c = c.loop-row.invariant.1.long
-
-pub shape_of-depths : goal.shape_of-depths
-shape_of-depths c = c.loop-row.invariant.2.long
-
-pub returns : goal.returns
-returns c =
-    let whole = rows_end c.args.shape c.loop-row.invariant.0 c.loop-row-test.false in
-    (same_written c.loop-row.invariant.1 whole, same_written c.loop-row.invariant.2 whole)

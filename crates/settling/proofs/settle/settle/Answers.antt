@@ -13,8 +13,6 @@ use Rattle.settling.proofs.SureLaws.{off_lost, soaked_lost, next_is, next-stored
 use Rattle.settling.proofs.settle.settle.Goals as goal
 use Rattle.settling.proofs.settle.settle.Goals.{After-late_number-refused, After-record_size-size, After-slot_after-slot, After-slot_start-at, After-slots_in-slots}
 
--- ---- the places, each from the one after it
-
 -- ---- what is known there
 
 abbrev ground : After-record_size-size → Plan
@@ -112,9 +110,6 @@ write_water-requires c =
       shape_in_range = (ask.fine, ask.marks_long, told.left_long, c.spread-lost.ensures.room_is.long, ask.lasts_long, ask.depths_long);
       worked_len = (told.worked_long, told.senders_long, same_beyond told ask.fine ask.marks_long c.spread-lost.ensures.room_is);
     }
-
-pub lasted-requires : goal.lasted-requires
-lasted-requires c = omega (arith, (asks (goal.at.lasted-requires c).After-slot_start-at).record_long)
 
 pub overflow_add-after : goal.overflow_add-after
 overflow_add-after c = omega (arith, c.lasted.ensures, (asks (goal.at.overflow_add-after c).After-slot_start-at).clock_to)

@@ -6,12 +6,6 @@ use Rattle.ledger.specs.Record.{leaves_in}
 use Rattle.ledger.proofs.FlowLaws.{off_none}
 use Rattle.settling.proofs.spread.send.Goals as goal
 
-pub send_within-requires : goal.send_within-requires
-send_within-requires c = record {
-  sends_few = (c.requires.sends_few.0, sym c.on_rim.ensures ∙ c.if-on_rim.false);
-  space_left = (c.requires.space_left.0, c.requires.space_left.1);
-}
-
 pub returns : goal.returns
 returns c = (
   off_none (plan c.args.shape c.args.marks.now) (leaves_in c.args.rec.now) c.args.square

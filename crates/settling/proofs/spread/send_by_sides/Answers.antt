@@ -12,8 +12,6 @@ use Rattle.settling.proofs.SpreadLaws.{brought_all, space-after}
 use Rattle.settling.proofs.spread.send_by_sides.Goals as goal
 use Rattle.settling.proofs.spread.send_by_sides.Goals.{After-send_side-east, After-send_side-north, After-send_side-south, After-slice_known-5-1}
 
--- ---- the places, each from the one after it
-
 -- ---- what is known there
 
 module _ (c : After-send_side-north) where
@@ -39,12 +37,6 @@ space2 c =
 space3 : (c : After-send_side-south) → SpaceLeft (p (goal.at.After-send_side-south c).After-send_side-north) most_depth c.send_side-south.new.room
 space3 c =
     space-after (p (goal.at.After-send_side-south c).After-send_side-north) (rec (goal.at.After-send_side-south c).After-send_side-north) (i (goal.at.After-send_side-south c).After-send_side-north) south most_depth (space2 (goal.at.After-send_side-south c).After-send_side-east) c.send_side-south.ensures.1 (c.requires.sends_few.0.few south (omega arith))
-
-pub send_side-north-requires : goal.send_side-north-requires
-send_side-north-requires c = record {
-  sends_few = (c.requires.sends_few.0, omega arith);
-  space_left = ((λ j h o. omega (arith, c.requires.space_left.0 j h o)), c.requires.space_left.1);
-}
 
 pub send_side-east-requires : goal.send_side-east-requires
 send_side-east-requires c = record {

@@ -18,22 +18,11 @@ module _ (c : After-squares_of) where
   abbrev at : ℕ
   at = c.beside_on-at.result
 
-pub leaving-amount-requires : goal.leaving-amount-requires
-leaving-amount-requires c = omega (arith, c.requires.sends_few.0.recorded.record_long, c.requires.sends_few.0.on.inside, c.requires.sends_few.1)
-
 pub returns-then-squares_of-at : goal.returns-then-squares_of-at
 returns-then-squares_of-at c =
     let beyond : squares (p (goal.at.returns-then-squares_of-at c).After-squares_of).shape ≤ at (goal.at.returns-then-squares_of-at c).After-squares_of = omega (arith, c.squares_of.ensures, c.if-squares_of-at.true) in (
       c.leaving-amount.ensures ∙ off_beyond (p (goal.at.returns-then-squares_of-at c).After-squares_of) (leaves_in c.args.rec.now) c.args.square c.args.side c.beside_on-at.ensures beyond,
       brought_none (p (goal.at.returns-then-squares_of-at c).After-squares_of) c.args.rec.now c.args.square c.args.side (omega (arith, beyond, c.beside_on-at.ensures)),
-    )
-
-pub send_to-requires : goal.send_to-requires
-send_to-requires c =
-    let few = c.requires.sends_few.0 in
-    let inside : at (goal.at.send_to-requires c).After-squares_of < squares (p (goal.at.send_to-requires c).After-squares_of).shape = omega (arith, c.squares_of.ensures, c.if-squares_of-at.false) in (
-      omega (arith, inside, few.recorded.marks_long, c.requires.space_left.1),
-      omega (arith, c.leaving-amount.ensures, few.few c.args.side c.requires.sends_few.1),
     )
 
 pub returns : goal.returns

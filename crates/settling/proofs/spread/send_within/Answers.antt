@@ -87,29 +87,11 @@ space3 c =
 pub overflow_sub-square : goal.overflow_sub-square
 overflow_sub-square c = omega (arith, to-north (goal.at.overflow_sub-square c).Start)
 
-pub leaving-requires : goal.leaving-requires
-leaving-requires c = omega (arith, c.requires.sends_few.0.recorded.record_long, inside (goal.at.leaving-requires c).Start)
-
-pub send_to-requires : goal.send_to-requires
-send_to-requires c = (
-  omega (arith, inside (goal.at.send_to-requires c).Start, long (goal.at.send_to-requires c).Start),
-  omega (arith, c.leaving.ensures, c.requires.sends_few.0.few north (omega arith)),
-)
-
-pub leaving-requires-2 : goal.leaving-requires-2
-leaving-requires-2 c = omega (arith, c.requires.sends_few.0.recorded.record_long, inside (goal.at.leaving-requires-2 c).Start)
-
 pub send_to-requires-2 : goal.send_to-requires-2
 send_to-requires-2 c = (
   omega (arith, to-east (goal.at.send_to-requires-2 c).Start, long (goal.at.send_to-requires-2 c).Start, (grown1 (goal.at.send_to-requires-2 c).After-send_to).long),
   omega (arith, c.leaving-2.ensures, c.requires.sends_few.0.few east (omega arith)),
 )
-
-pub overflow_add-square-2 : goal.overflow_add-square-2
-overflow_add-square-2 c = omega (arith, to-south (goal.at.overflow_add-square-2 c).Start, c.requires.sends_few.0.on.fine.few)
-
-pub leaving-requires-3 : goal.leaving-requires-3
-leaving-requires-3 c = omega (arith, c.requires.sends_few.0.recorded.record_long, inside (goal.at.leaving-requires-3 c).Start)
 
 pub send_to-requires-3 : goal.send_to-requires-3
 send_to-requires-3 c = (
@@ -119,15 +101,6 @@ send_to-requires-3 c = (
 
 pub overflow_sub-square-2 : goal.overflow_sub-square-2
 overflow_sub-square-2 c = omega (arith, to-west (goal.at.overflow_sub-square-2 c).Start)
-
-pub leaving-requires-4 : goal.leaving-requires-4
-leaving-requires-4 c = omega (arith, c.requires.sends_few.0.recorded.record_long, inside (goal.at.leaving-requires-4 c).Start)
-
-pub send_to-requires-4 : goal.send_to-requires-4
-send_to-requires-4 c = (
-  omega (arith, inside (goal.at.send_to-requires-4 c).Start, long (goal.at.send_to-requires-4 c).Start, (grown1 (goal.at.send_to-requires-4 c).After-send_to).long, (grown2 (goal.at.send_to-requires-4 c).After-send_to-2).long, (grown3 (goal.at.send_to-requires-4 c).After-send_to-3).long),
-  omega (arith, c.leaving-4.ensures, c.requires.sends_few.0.few west (omega arith)),
-)
 
 pub returns : goal.returns
 returns c =

@@ -1,9 +1,9 @@
 -- `settling::spread::spread` meets its contract: the rows so far are spread.
 -- Assumes nothing.
-use Rattle.std.proofs.Common.{◌≡◌, ℕ, false, List, get_or, refl, arith}
+use Rattle.std.proofs.Common.{◌≡◌, ℕ, false, List, get_or, refl}
 use Rattle.grid.specs.Marks.{closed}
 use Rattle.grid.specs.Inner.Rows.{InRow}
-use Rattle.grid.proofs.SquareLaws.{rows_begin, row_here, row_next, rows_end}
+use Rattle.grid.proofs.SquareLaws.{rows_begin, row_here, rows_end}
 use Rattle.ledger.specs.Runs.{Plan, plan}
 use Rattle.ledger.specs.Flows.{gone}
 use Rattle.ledger.specs.Record.{leaves_in}
@@ -13,8 +13,6 @@ use Rattle.grid.proofs.WalkLaws.{by_row}
 use Rattle.settling.proofs.SpreadLaws.{spread_none, spread_all}
 use Rattle.settling.proofs.spread.spread.Goals as goal
 use Rattle.settling.proofs.spread.spread.Goals.{In-loop-row, Start}
-
--- ---- the places, each from the one after it
 
 -- ---- what is known there
 
@@ -45,12 +43,6 @@ in_row c = row_here c.args.shape c.loop-row.invariant.0 c.loop-row-test.true
 pub loop-row-init : goal.loop-row-init
 loop-row-init c = (rows_begin _ _, spread_none (p (goal.at.loop-row-init c).Start) (rec (goal.at.loop-row-init c).Start) (depths (goal.at.loop-row-init c).Start) c.requires.spreads.1)
 
-pub offset_bounds-worked-row : goal.offset_bounds-worked-row
-offset_bounds-worked-row c = omega (arith, c.loop-row-test.true, c.requires.worked_len.0, c.requires.spreads.0.recorded.fine.rows_high)
-
-pub bounds-worked-row : goal.bounds-worked-row
-bounds-worked-row c = omega (arith, c.loop-row-test.true, c.requires.worked_len.0, c.requires.spreads.0.recorded.fine.rows_high)
-
 pub spread_row-lost-requires : goal.spread_row-lost-requires
 unfolding bit_of
 spread_row-lost-requires c = record {
@@ -61,24 +53,6 @@ spread_row-lost-requires c = record {
     by_row c.args.shape c.loop-row.row c.loop-row.invariant.0.begins (masks (goal.at.spread_row-lost-requires c).Start) (Left (goal.at.spread_row-lost-requires c).Start) c.loop-row-test.true refl c.requires.worked_len.2,
   );
 }
-
-pub overflow_add-row : goal.overflow_add-row
-overflow_add-row c = omega (arith, c.loop-row-test.true, c.requires.spreads.0.recorded.fine.rows_high)
-
-pub overflow_add-first : goal.overflow_add-first
-overflow_add-first c = omega (arith, (in_row (goal.at.overflow_add-first c).In-loop-row).fits, c.requires.spreads.0.recorded.fine.few)
-
-pub loop-row-smaller : goal.loop-row-smaller
-loop-row-smaller c = omega (arith, c.loop-row-test.true)
-
-pub loop-row-preserved : goal.loop-row-preserved
-loop-row-preserved c = (
-  row_next c.loop-row.invariant.0 c.loop-row-test.true,
-  c.spread_row-lost.ensures,
-)
-
-pub shape_of-room : goal.shape_of-room
-shape_of-room c = omega (arith, c.loop-row.invariant.1.long, c.requires.spreads.1.long)
 
 pub returns : goal.returns
 returns c =

@@ -1,4 +1,3 @@
-use Rattle.std.proofs.Common.{◌-◌}
 use Rattle.grid.specs.Inner.Rows.{AtRow}
 use Rattle.ledger.specs.Runs.{plan}
 use Rattle.settling.specs.Inner.Settle.{SpreadTo}
@@ -6,6 +5,3 @@ use Rattle.settling.proofs.spread.spread.Given as goal
 
 abbrev pub invariant-loop-row : goal.invariant-loop-row
 invariant-loop-row l = AtRow l.rows l.columns l.row l.first × SpreadTo (plan l.shape l.marks) l.rec l.depths l.first l.lost l.room
-
-abbrev pub decreases-loop-row : goal.decreases-loop-row
-decreases-loop-row l = l.rows - l.row

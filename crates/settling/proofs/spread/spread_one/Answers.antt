@@ -59,18 +59,6 @@ returns-then-is_closed c =
     spread_idle (plan c.args.shape c.args.marks.now) c.args.rec.now c.args.depths.now
     (λ o. not_both (sym c.is_closed.ensures ∙ c.if-is_closed.true) o) c.requires.spreads.2
 
-pub soaked_by-soaked-requires : goal.soaked_by-soaked-requires
-soaked_by-soaked-requires c = omega (arith, c.requires.spreads.0.recorded.record_long, c.requires.spreads.1.inside)
-
-pub overflow_add-remains : goal.overflow_add-remains
-overflow_add-remains c = omega (arith, left_is c, c.soaked_by-soaked.ensures, covered c, c.requires.spreads.0.depths_to (i c) (inside c) (open-here c))
-
-pub overflow_sub-remains : goal.overflow_sub-remains
-overflow_sub-remains c = omega (arith, left_is c, c.soaked_by-soaked.ensures, covered c, c.number.ensures)
-
-pub overflow_add-room : goal.overflow_add-room
-overflow_add-room c = omega (arith, room_is c, next_few c.requires.spreads.0 c.requires.spreads.2 (inside (goal.at.overflow_add-room c).After-number-2) (open-here (goal.at.overflow_add-room c).After-number-2))
-
 pub overflow_cast-room : goal.overflow_cast-room
 overflow_cast-room c = record { fits = omega (arith, room_is c, next_few c.requires.spreads.0 c.requires.spreads.2 (inside (goal.at.overflow_cast-room c).After-number-2) (open-here (goal.at.overflow_cast-room c).After-number-2)) }
 
@@ -120,9 +108,6 @@ overflow_add-result-2 c =
       c.soaked_by-soaked.ensures,
       soaked_small (rec (goal.at.overflow_add-result-2 c).After-number-2) (words (goal.at.overflow_add-result-2 c).After-number-2) (i (goal.at.overflow_add-result-2 c).After-number-2),
     )
-
-pub shape_of-room : goal.shape_of-room
-shape_of-room c = c.send-off.ensures.1.long ∙ length-set c.args.room.now (i (goal.at.shape_of-room c).After-number-2) _
 
 pub returns : goal.returns
 returns c =

@@ -3,15 +3,13 @@
 use Rattle.std.proofs.Common.{ℕ, ◌+◌, ◌<◌, ◌≤◌, List, arith}
 use Rattle.grid.specs.Inner.Visits.{Passes, Visits}
 use Rattle.grid.proofs.SquareLaws.{row-column}
-use Rattle.grid.proofs.RestLaws.{walk_begins, walk_within, walk_turn, walk_on, walk_less, walk_over}
+use Rattle.grid.proofs.RestLaws.{walk_begins, walk_within, walk_turn, walk_on, walk_over}
 use Rattle.ledger.specs.Runs.{Plan, plan}
 use Rattle.settling.specs.declared.spread.Lost.{Lost}
 use Rattle.settling.specs.Inner.Settle.{SpreadTo}
 use Rattle.settling.proofs.SpreadLaws.{spread_same, spread_idle}
 use Rattle.settling.proofs.spread.spread_row.Goals as goal
 use Rattle.settling.proofs.spread.spread_row.Goals.{After-lowest_set-column, Start}
-
--- ---- the places, each from the one after it
 
 -- ---- what is known there
 
@@ -45,14 +43,8 @@ module _ (c : After-lowest_set-column) where
       (λ k. SpreadTo (p (goal.at.After-lowest_set-column c).Start) (rec (goal.at.After-lowest_set-column c).Start) (depths (goal.at.After-lowest_set-column c).Start) (c.args.first + k) c.loop-rest.lost c.loop-rest.room) column
   here = walk_turn c.loop-rest.invariant (columns_high (goal.at.After-lowest_set-column c).Start) c.loop-rest-test.true c.lowest_set-column.ensures (passes (goal.at.After-lowest_set-column c).Start _ _)
 
-pub within_row-rest-requires : goal.within_row-rest-requires
-within_row-rest-requires c = (c.requires.spreads.0.recorded.fine.columns_low, columns_high (goal.at.within_row-rest-requires c).Start)
-
 pub loop-rest-init : goal.loop-rest-init
 loop-rest-init c = walk_begins (columns_high (goal.at.loop-rest-init c).Start) c.within_row-rest.ensures (spread_same (p (goal.at.loop-rest-init c).Start) (rec (goal.at.loop-rest-init c).Start) (depths (goal.at.loop-rest-init c).Start) c.requires.spreads.2 (omega arith))
-
-pub lowest_set-column-requires : goal.lowest_set-column-requires
-lowest_set-column-requires c = omega (arith, c.loop-rest-test.true)
 
 pub overflow_add-first : goal.overflow_add-first
 overflow_add-first c = omega (arith, c.requires.spreads.1.fits, c.requires.spreads.0.recorded.fine.few, within c)
@@ -66,19 +58,10 @@ spread_one-lost-requires c = record {
   );
 }
 
-pub without_lowest-rest-requires : goal.without_lowest-rest-requires
-without_lowest-rest-requires c = omega (arith, c.loop-rest-test.true)
-
-pub loop-rest-smaller : goal.loop-rest-smaller
-loop-rest-smaller c = walk_less c.loop-rest-test.true c.without_lowest-rest.ensures
-
 pub loop-rest-preserved : goal.loop-rest-preserved
 loop-rest-preserved c =
     walk_on c.loop-rest.invariant (columns_high (goal.at.loop-rest-preserved c).Start) c.loop-rest-test.true c.lowest_set-column.ensures c.without_lowest-rest.ensures
     (spread_same (p (goal.at.loop-rest-preserved c).Start) (rec (goal.at.loop-rest-preserved c).Start) (depths (goal.at.loop-rest-preserved c).Start) c.spread_one-lost.ensures (omega arith))
-
-pub shape_of-room : goal.shape_of-room
-shape_of-room c = omega (arith, c.loop-rest.invariant.held.long, c.requires.spreads.2.long)
 
 pub returns : goal.returns
 returns c = walk_over c.loop-rest.invariant (columns_high (goal.at.returns c).Start) c.loop-rest-test.false (passes (goal.at.returns c).Start _ _)

@@ -10,7 +10,7 @@ use Rattle.sheet.proofs.lines.closed_cell.Goals as goal
 
 pub returns-then-not-byte_is : goal.returns-then-not-byte_is
 unfolding closed_cell
-returns-then-not-byte_is c = c.no_cell.ensures ∙ sym (pick_false _ _ (sym c.byte_is.ensures ∙ c.if-not-byte_is.true))
+returns-then-not-byte_is c = sym (pick_false _ _ (sym c.byte_is.ensures ∙ c.if-not-byte_is.true))
 
 pub overflow_add-result : goal.overflow_add-result
 overflow_add-result c = omega (arith, byte_within c.args.text.now c.args.at newline (sym c.byte_is.ensures ∙ c.if-not-byte_is.false))

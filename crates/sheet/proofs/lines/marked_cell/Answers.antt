@@ -23,7 +23,7 @@ no-o c = sym c.byte_is-3.ensures ∙ c.if-byte_is-2.false
 
 pub returns-then-not-byte_is : goal.returns-then-not-byte_is
 unfolding marked_cell
-returns-then-not-byte_is c = c.no_cell.ensures ∙ sym (pick_false _ _ (sym c.byte_is.ensures ∙ c.if-not-byte_is.true))
+returns-then-not-byte_is c = sym (pick_false _ _ (sym c.byte_is.ensures ∙ c.if-not-byte_is.true))
 
 pub overflow_add-at : goal.overflow_add-at
 overflow_add-at c = omega (arith, byte_within c.args.text.now c.args.at tab (tab-is c))
@@ -66,6 +66,5 @@ returns-then-byte_is-3 c =
 pub returns : goal.returns
 unfolding marked_cell
 returns c =
-    c.no_cell-2.ensures
-    ∙ sym
+    sym
     (pick_true _ _ (tab-is (goal.at.returns c).Else-not-byte_is) ∙ (pick_false _ _ (no-x (goal.at.returns c).Else-byte_is) ∙ (pick_false _ _ (no-o (goal.at.returns c).Else-byte_is-2) ∙ pick_false _ _ (sym c.byte_is-4.ensures ∙ c.if-byte_is-3.false))))

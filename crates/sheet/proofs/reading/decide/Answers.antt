@@ -5,19 +5,21 @@ use Prim.Native.Nat.{ℕ, ◌≤◌}
 use native.Mathlib.Omega.{arith}
 use lib.ListN.{length, replicate, length-replicate}
 use Rattle.grid.specs.Squares.{squares, most_squares}
+use Rattle.std.proofs.Common.{Option}
+use Rattle.sheet.specs.Sheet.{grid_or}
 use Rattle.sheet.specs.declared.lines.GridLine.{GridLine}
 use Rattle.sheet.proofs.JudgeLaws.{taken_long, said_from, decided_bad, decided_good}
 use Rattle.sheet.proofs.reading.decide.Goals as goal
 use Rattle.sheet.proofs.reading.decide.Goals.{After-squares_of-squares}
 
 few : (c : After-squares_of-squares) → c.squares_of-squares.result ≤ most_squares
-few c = omega (arith, c.requires.2.few, c.squares_of-squares.ensures)
+few c = omega (arith, c.requires.1.few, c.squares_of-squares.ensures)
 
 pub read_body-body-requires : goal.read_body-body-requires
 read_body-body-requires c =
     let room : squares c.args.top.shape ≤ length (replicate {A = ℕ} most_squares 0) =
-    omega (arith, c.requires.2.few, length-replicate {A = ℕ} most_squares 0) in record {
-      top_value = (c.requires.0, c.requires.1, c.requires.2);
+    omega (arith, c.requires.1.few, length-replicate {A = ℕ} most_squares 0) in record {
+      top_value = c.requires;
       shape_in_bounds = (room, room, room, room, room);
     }
 
@@ -25,7 +27,7 @@ pub returns-then-body-ne0 : goal.returns-then-body-ne0
 returns-then-body-ne0 c = decided_bad c.read_body-body.ensures c.if-body-ne0.true
 
 pub squares_of-squares-requires : goal.squares_of-squares-requires
-squares_of-squares-requires c = c.requires.2
+squares_of-squares-requires c = c.requires.1
 
 pub slice_bounds-marks-end : goal.slice_bounds-marks-end
 slice_bounds-marks-end c = omega (arith, few c)
@@ -59,9 +61,9 @@ slice_bounds-judge_body-end-5 c = taken_long _ (few (goal.at.slice_bounds-judge_
 
 pub judge_body-number-requires : goal.judge_body-number-requires
 judge_body-number-requires c =
-    let s = ap (λ (g : GridLine). g.shape) c.requires.0 in record {
-      shape_in_range = (c.requires.2, s, c.read_body-body.ensures.body_is c.if-body-ne0.false);
-      depths_value = said_from _ most_squares (c.squares_of-squares.ensures ∙ ap squares s) (omega (arith, c.requires.2.few, ap squares s)) (c.read_body-body.ensures.rooms_are c.if-body-ne0.false);
+    let s = ap (λ (g : Option GridLine). (grid_or g).shape) c.requires.0 in record {
+      shape_in_range = (c.requires.1, s, c.read_body-body.ensures.body_is c.if-body-ne0.false);
+      depths_value = said_from _ most_squares (c.squares_of-squares.ensures ∙ ap squares s) (omega (arith, c.requires.1.few, ap squares s)) (c.read_body-body.ensures.rooms_are c.if-body-ne0.false);
     }
 
 pub returns : goal.returns

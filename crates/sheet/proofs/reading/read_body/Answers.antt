@@ -1,22 +1,13 @@
 -- `sheet::reading::read_body` meets its contract: reading stops at the first bad line.
 -- Assumes nothing.
-use mathlib.Core.Bool.{true}
-use mathlib.Core.Path.{◌≡◌, ap, ◌∙◌}
+use mathlib.Core.Path.{ap, ◌∙◌}
 use Prim.Native.Nat.{ℕ, ◌+◌, ◌≤◌}
 use native.Mathlib.Omega.{arith}
-use borrow.Author.Tests.{not-true, not-false}
 use Rattle.grid.specs.Squares.{squares}
 use Rattle.sheet.specs.Sheet.{first_cell}
-use Rattle.sheet.proofs.ReadLaws.{HeadRead, body_run, body_cells, body_rest, body_good, body_lines, plain_rain, plain_inflow}
+use Rattle.sheet.proofs.ReadLaws.{body_run, body_cells, body_rest, body_good, body_lines, plain_rain, plain_inflow}
 use Rattle.sheet.proofs.reading.read_body.Goals as goal
-use Rattle.sheet.proofs.reading.read_body.Goals.{After-count_rows-inflow, After-run_line-run, Else-not-run}
-
--- what is known there
-head : (c : After-run_line-run) → HeadRead c.args.text.now c.args.top c.run_line-run.result
-head c = record { grid_is = c.requires.top_value.0; grid_found = c.requires.top_value.1; run_is = c.run_line-run.ensures }
-
-run-found : (c : Else-not-run) → c.run_line-run.result.found ≡ true
-run-found c = not-false _ c.if-not-run.false
+use Rattle.sheet.proofs.reading.read_body.Goals.{After-count_rows-inflow}
 
 enough : (c : After-count_rows-inflow) → squares c.args.top.shape ≤ c.fill_cells-cells.result.count
 enough c = omega (arith, c.squares_of-squares.ensures, c.if-cells-squares.false)
@@ -26,17 +17,17 @@ room :
     squares c.args.top.shape + c.count_rows-rain.result.count + c.count_rows-inflow.result.count + 2 ≤
     c.count_rows-inflow.result.next
 room c =
-    body_lines (head (goal.at.After-count_rows-inflow c).After-run_line-run) (run-found (goal.at.After-count_rows-inflow c).Else-not-run) c.fill_cells-cells.ensures (enough c) c.count_rows-rain.ensures c.count_rows-inflow.ensures
+    body_lines c.args.text.now c.requires.top_value.0 c.in-Some.ensures c.fill_cells-cells.ensures (enough c) c.count_rows-rain.ensures c.count_rows-inflow.ensures
 
-pub returns-then-not-run : goal.returns-then-not-run
-returns-then-not-run c = body_run (head (goal.at.returns-then-not-run c).After-run_line-run) (not-true _ c.if-not-run.true) c.bad_body.ensures
+pub returns-in_default : goal.returns-in_default
+returns-in_default c = body_run c.args.text.now c.requires.top_value.0 c.in_default.ensures c.bad_body.ensures
 
 pub overflow_add-cells : goal.overflow_add-cells
-overflow_add-cells c = omega (arith, c.if-cells-squares.true, c.squares_of-squares.ensures, c.requires.top_value.2.few)
+overflow_add-cells c = omega (arith, c.if-cells-squares.true, c.squares_of-squares.ensures, c.requires.top_value.1.few)
 
 pub returns-then-cells-squares : goal.returns-then-cells-squares
 returns-then-cells-squares c =
-    body_cells (head (goal.at.returns-then-cells-squares c).After-run_line-run) (run-found (goal.at.returns-then-cells-squares c).Else-not-run) c.fill_cells-cells.ensures
+    body_cells c.args.text.now c.requires.top_value.0 c.in-Some.ensures c.fill_cells-cells.ensures
     (omega (arith, c.squares_of-squares.ensures, c.if-cells-squares.true)) c.bad_body-then-cells-squares.ensures
 
 pub count_rows-rain-requires : goal.count_rows-rain-requires
@@ -77,7 +68,7 @@ shape_of-depths-then-inflow-text c = c.fill_cells-cells.auto.depths
 
 pub returns-then-inflow-text : goal.returns-then-inflow-text
 returns-then-inflow-text c =
-    body_rest (head (goal.at.returns-then-inflow-text c).After-run_line-run) (run-found (goal.at.returns-then-inflow-text c).Else-not-run) c.fill_cells-cells.ensures (enough (goal.at.returns-then-inflow-text c).After-count_rows-inflow) c.count_rows-rain.ensures
+    body_rest c.args.text.now c.requires.top_value.0 c.in-Some.ensures c.fill_cells-cells.ensures (enough (goal.at.returns-then-inflow-text c).After-count_rows-inflow) c.count_rows-rain.ensures
     c.count_rows-inflow.ensures c.if-inflow-text.true
     (c.bad_body-then-inflow-text.ensures ∙ ap (λ (k : ℕ). k + c.count_rows-rain.result.count + c.count_rows-inflow.result.count + first_cell) c.squares_of-squares.ensures)
 
@@ -98,5 +89,5 @@ shape_of-depths c = c.fill_cells-cells.auto.depths
 
 pub returns : goal.returns
 returns c =
-    body_good (head (goal.at.returns c).After-run_line-run) (run-found (goal.at.returns c).Else-not-run) c.fill_cells-cells.ensures (enough (goal.at.returns c).After-count_rows-inflow) c.count_rows-rain.ensures
+    body_good c.args.text.now c.requires.top_value.0 c.in-Some.ensures c.fill_cells-cells.ensures (enough (goal.at.returns c).After-count_rows-inflow) c.count_rows-rain.ensures
     c.count_rows-inflow.ensures (omega arith)

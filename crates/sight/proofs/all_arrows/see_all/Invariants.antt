@@ -1,5 +1,5 @@
 use mathlib.Core.Path.{◌≡◌}
-use Prim.Native.Nat.{◌%◌, ◌-◌, ◌≤◌}
+use Prim.Native.Nat.{◌%◌}
 use Rattle.grid.specs.Squares as Grid
 use Rattle.ledger.specs.Runs.{plan}
 use Rattle.sight.specs.Arrows.{seen_by}
@@ -7,8 +7,7 @@ use Rattle.sight.proofs.AllArrowsLaws.{Sweeping}
 use Rattle.sight.proofs.all_arrows.see_all.Given as goal
 
 abbrev pub invariant-loop-square : goal.invariant-loop-square
-invariant-loop-square l = (l.square ≤ l.squares) × (l.column ≡ l.square % l.shape.columns)
-    × Sweeping (Grid.squares l.shape) (seen_by 0 (plan l.shape l.marks) l.square_side l.depths l.rec) l.square l.kinds l.east l.north
-
-abbrev pub decreases-loop-square : goal.decreases-loop-square
-decreases-loop-square l = l.squares - l.square
+invariant-loop-square l = record {
+  carried : l.column ≡ l.square % l.shape.columns;
+  swept : Sweeping (Grid.squares l.shape) (seen_by 0 (plan l.shape l.marks) l.square_side l.depths l.rec) l.square l.kinds l.east l.north;
+}

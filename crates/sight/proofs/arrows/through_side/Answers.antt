@@ -6,12 +6,7 @@ use Rattle.sight.proofs.RefusalLaws.{depth_to}
 use Rattle.sight.proofs.ArrowLaws.{side_off, side_closed, side_open}
 use Rattle.sight.proofs.arrows.through_side.Goals as goal
 
--- ---- the places, each by the one before it
-
 -- ---- the answers
-
-pub overflow_add-result : goal.overflow_add-result
-overflow_add-result c = omega (arith, depth_to _ _ c.requires.sight_lent.depths-fine c.requires.on_square.0.inside c.requires.on_square.1, c.number-own.ensures)
 
 pub returns-then-squares_of-at : goal.returns-then-squares_of-at
 returns-then-squares_of-at c =
@@ -20,28 +15,12 @@ returns-then-squares_of-at c =
     c.number-own.ensures c.beside_on-at.ensures c.squares_of.ensures low
     c.requires.sight_lent.recorded.marks_long c.if-squares_of-at.true c.leaving.ensures
 
-pub overflow_add-result-then-is_closed : goal.overflow_add-result-then-is_closed
-overflow_add-result-then-is_closed c = omega (arith, depth_to _ _ c.requires.sight_lent.depths-fine c.requires.on_square.0.inside c.requires.on_square.1, c.number-own.ensures)
-
 pub returns-then-is_closed : goal.returns-then-is_closed
 returns-then-is_closed c =
     let low = depth_to _ _ c.requires.sight_lent.depths-fine c.requires.on_square.0.inside c.requires.on_square.1 in
     side_closed _ _ c.args.rec.now _ _ (λ k. omega (arith, c.type_inv.rec k))
     c.number-own.ensures c.beside_on-at.ensures c.squares_of.ensures low c.if-squares_of-at.false
     (sym c.is_closed.ensures ∙ c.if-is_closed.true)
-
-pub overflow_add-result-2 : goal.overflow_add-result-2
-overflow_add-result-2 c =
-    let near = depth_to _ _ c.requires.sight_lent.depths-fine (omega (arith, c.squares_of.ensures, c.if-squares_of-at.false))
-    (sym c.is_closed.ensures ∙ c.if-is_closed.false) in
-    omega (
-      arith,
-      depth_to _ _ c.requires.sight_lent.depths-fine c.requires.on_square.0.inside
-          c.requires.on_square.1,
-      near,
-      c.number-own.ensures,
-      c.number.ensures,
-    )
 
 pub returns : goal.returns
 returns c =

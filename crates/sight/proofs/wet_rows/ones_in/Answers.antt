@@ -11,20 +11,17 @@ use Rattle.sight.specs.WetRows.{ones_over}
 use Rattle.sight.proofs.wet_rows.ones_in.Goals as goal
 
 pub loop-row-init : goal.loop-row-init
-loop-row-init c = (zero-le, zero-le, sym (sum_none _))
-
-pub overflow_add-total : goal.overflow_add-total
-overflow_add-total c =
-    let few = ones-le bits (get_or c.args.rows.now c.loop-row.row 0)
-    (omega (arith, c.type_inv.rows c.loop-row.row)) in
-    omega (arith, c.ones-total.ensures)
+loop-row-init c = record { small = zero-le; so_far = sym (sum_none _) }
 
 pub loop-row-preserved : goal.loop-row-preserved
 loop-row-preserved c =
-    let few = ones-le bits (get_or c.args.rows.now c.loop-row.row 0)
-    (omega (arith, c.type_inv.rows c.loop-row.row)) in
-    (omega arith, omega (arith, c.ones-total.ensures), ap₂ ◌+◌ c.loop-row.invariant.2 c.ones-total.ensures ∙ sym (sum_more _ _))
+    let few = ones-le bits (get_or c.args.rows.now c.loop-row.row-index 0)
+    (omega (arith, c.type_inv.rows c.loop-row.row-index)) in
+    record {
+      small = omega (arith, c.ones-total.ensures);
+      so_far = ap₂ ◌+◌ c.loop-row.invariant.so_far c.ones-total.ensures ∙ sym (sum_more _ _);
+    }
 
 pub returns : goal.returns
 unfolding ones_over
-returns c = sum_whole _ c.loop-row.invariant.2 (omega arith)
+returns c = sum_whole _ c.loop-row.invariant.so_far (omega arith)

@@ -8,15 +8,9 @@ use Rattle.checks.proofs.CheckLaws.{fails_by, holds_by}
 use Rattle.stands.specs.Laying.{checks_of}
 use Rattle.stands.proofs.judging.checked.Goals as goal
 
-pub waters_read-requires : goal.waters_read-requires
-waters_read-requires c = c.requires
-
 pub returns-then-not-waters_read : goal.returns-then-not-waters_read
 unfolding checks_of
 returns-then-not-waters_read c = sym (refusal_here 3 _ (fails_by c.waters_read.ensures (ap not c.if-not-waters_read.true)))
-
-pub draws_fine-requires : goal.draws_fine-requires
-draws_fine-requires c = c.requires
 
 pub returns-then-not-draws_fine : goal.returns-then-not-draws_fine
 unfolding checks_of

@@ -9,9 +9,6 @@ use Rattle.hatches.proofs.RefusalLaws.{table_judged_as}
 use Rattle.stands.specs.Laying.{draws_fine}
 use Rattle.stands.proofs.judging.draws_fine.Goals as goal
 
-pub hatches_fine-requires : goal.hatches_fine-requires
-hatches_fine-requires c = c.requires
-
 pub returns-then-not-hatches_fine : goal.returns-then-not-hatches_fine
 unfolding draws_fine
 returns-then-not-hatches_fine c = sym (every_fails _ 0 (fails_by c.hatches_fine.ensures (ap not c.if-not-hatches_fine.true)))

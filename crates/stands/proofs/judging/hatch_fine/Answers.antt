@@ -2,14 +2,12 @@
 -- Assumes nothing.
 use mathlib.Core.Path.{refl, sym, ap}
 use mathlib.Core.Bool.{not}
-use native.Mathlib.Omega.{arith}
 use borrow.Author.Tests.{le-ltb, lt-ltb}
 use Rattle.reckon.proofs.TestLaws.{every_fails}
 use Rattle.ledger.specs.Runs.{plan}
 use Rattle.checks.proofs.CheckLaws.{every_decided}
 use Rattle.hatches.proofs.RefusalLaws.{closed_at}
 use Rattle.stands.specs.Laying.{hatch_fine}
-use Rattle.stands.proofs.JudgeLaws.{square_marked}
 use Rattle.stands.proofs.judging.hatch_fine.Goals as goal
 
 pub returns-then-shape-at_row : goal.returns-then-shape-at_row
@@ -19,9 +17,6 @@ returns-then-shape-at_row c = sym (every_fails _ 0 (le-ltb _ _ c.if-shape-at_row
 pub returns-then-shape-at_column : goal.returns-then-shape-at_column
 unfolding hatch_fine
 returns-then-shape-at_column c = sym (every_fails _ 1 (le-ltb _ _ c.if-shape-at_column.true))
-
-pub is_closed-requires : goal.is_closed-requires
-is_closed-requires c = square_marked c.args.shape c.args.marks.now c.square_at.ensures (omega (arith, c.if-shape-at_row.false)) (omega (arith, c.if-shape-at_column.false)) c.requires.1
 
 pub returns-then-is_closed : goal.returns-then-is_closed
 unfolding hatch_fine

@@ -10,18 +10,15 @@ use Rattle.stands.specs.Laying.{hatches_fine}
 use Rattle.stands.proofs.judging.hatches_fine.Goals as goal
 
 pub loop-hatch-init : goal.loop-hatch-init
-loop-hatch-init c = (omega arith, all_none _)
-
-pub place_fine-requires : goal.place_fine-requires
-place_fine-requires c = (c.requires.0, c.requires.1, omega arith)
+loop-hatch-init c = all_none _
 
 pub returns-then-not-place_fine : goal.returns-then-not-place_fine
 unfolding hatches_fine
 returns-then-not-place_fine c = sym (all_fails _ _ c.loop-hatch.hatch (omega arith) (fails_by c.place_fine.ensures (ap not c.if-not-place_fine.true)))
 
 pub loop-hatch-preserved : goal.loop-hatch-preserved
-loop-hatch-preserved c = (omega arith, all_more _ _ c.loop-hatch.invariant.1 (holds_by c.place_fine.ensures (ap not c.if-not-place_fine.false)))
+loop-hatch-preserved c = all_more _ _ c.loop-hatch.invariant (holds_by c.place_fine.ensures (ap not c.if-not-place_fine.false))
 
 pub returns : goal.returns
 unfolding hatches_fine
-returns c = sym (all_whole _ c.loop-hatch.invariant.1 (omega arith))
+returns c = sym (all_whole _ c.loop-hatch.invariant (omega arith))

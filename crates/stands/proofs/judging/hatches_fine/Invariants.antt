@@ -1,16 +1,10 @@
 use mathlib.Core.Path.{◌≡◌}
 use mathlib.Core.Bool.{true, false, ◌||◌, not}
-use Prim.Native.Nat.{◌-◌, ◌≤◌}
 use lib.ListN.{get_or}
 use Rattle.reckon.specs.Tests.{all_below}
 use Rattle.ledger.specs.Runs.{plan}
-use Rattle.hatches.specs.Log.{most_hatches}
 use Rattle.stands.specs.Laying.{hatch_fine}
 use Rattle.stands.proofs.judging.hatches_fine.Given as goal
 
 abbrev pub invariant-loop-hatch : goal.invariant-loop-hatch
-invariant-loop-hatch l = (l.hatch ≤ most_hatches)
-    × (all_below l.hatch (λ h. not (get_or l.hatches.named h false) || hatch_fine (plan l.shape l.marks) (get_or l.hatches.rows h 0) (get_or l.hatches.columns h 0) (get_or l.litres h 0)) ≡ true)
-
-abbrev pub decreases-loop-hatch : goal.decreases-loop-hatch
-decreases-loop-hatch l = most_hatches - l.hatch
+invariant-loop-hatch l = all_below l.hatch (λ h. not (get_or l.hatches.named h false) || hatch_fine (plan l.shape l.marks) (get_or l.hatches.rows h 0) (get_or l.hatches.columns h 0) (get_or l.litres h 0)) ≡ true

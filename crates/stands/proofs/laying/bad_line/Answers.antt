@@ -8,17 +8,11 @@ use Rattle.stands.proofs.laying.bad_line.Goals as goal
 pub returns-then-head-ne0 : goal.returns-then-head-ne0
 returns-then-head-ne0 c = bad_head c.requires.2 (plan c.args.shape c.args.marks.now) c.if-head-ne0.true
 
-pub pass_squares-scan-requires : goal.pass_squares-scan-requires
-pass_squares-scan-requires c = (c.requires.0, c.requires.1)
-
 pub overflow_add-line : goal.overflow_add-line
 overflow_add-line c = omega (arith, lines_few c.requires.2)
 
 pub overflow_add-line-2 : goal.overflow_add-line-2
 overflow_add-line-2 c = omega (arith, lines_few c.requires.2, c.pass_squares-scan.ensures.few, c.requires.0.few)
-
-pub squares_of-requires : goal.squares_of-requires
-squares_of-requires c = c.requires.0
 
 pub returns-then-scan-squares_of : goal.returns-then-scan-squares_of
 returns-then-scan-squares_of c =

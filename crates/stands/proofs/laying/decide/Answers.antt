@@ -5,12 +5,6 @@ use Rattle.stands.specs.Inner.Passing.{NamedRead}
 use Rattle.stands.proofs.LayLaws.{named-at, saved_is, laid_bad, laid_checked}
 use Rattle.stands.proofs.laying.decide.Goals as goal
 
-pub saved_from-saved-requires : goal.saved_from-saved-requires
-saved_from-saved-requires c = c.requires.2
-
-pub bad_line-bad-requires : goal.bad_line-bad-requires
-bad_line-bad-requires c = (c.requires.0, c.requires.1, record { head_is = c.read_head-head.ensures; named_is = c.read_hatches-named.ensures })
-
 pub returns-then-bad-ne0 : goal.returns-then-bad-ne0
 returns-then-bad-ne0 c =
     let k : NamedRead c.args.text.now c.read_head-head.result c.read_hatches-named.result =
@@ -19,9 +13,6 @@ returns-then-bad-ne0 c =
       laid_is = laid_bad (plan c.args.shape c.args.marks.now) _ _ _ c.bad_line-bad.ensures (saved_is k _ c.saved_from-saved.ensures) c.if-bad-ne0.true;
       at_is = named-at k;
     }
-
-pub checked-number-requires : goal.checked-number-requires
-checked-number-requires c = (c.requires.0, c.requires.1)
 
 pub returns : goal.returns
 returns c =

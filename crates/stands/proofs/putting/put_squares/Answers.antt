@@ -5,43 +5,20 @@ use Rattle.grid.specs.Squares.{squares}
 use Rattle.ledger.specs.Runs.{plan}
 use Rattle.stands.specs.Texts.{square_text, squares_text}
 use Rattle.stands.specs.Inner.Putting.{most_square}
-use Rattle.stands.proofs.PutLaws.{lines_none, lines_long, lines_fit, lines_more, lines_all}
+use Rattle.stands.proofs.PutLaws.{lines_none, lines_more, lines_all}
 use Rattle.stands.proofs.putting.put_squares.Goals as goal
 
-pub squares_of-squares-requires : goal.squares_of-squares-requires
-squares_of-squares-requires c = c.requires.shape_in_range.0
-
 pub loop-square-init : goal.loop-square-init
-loop-square-init c = (omega arith, lines_none _ _ _ _)
-
-pub put_square-next-requires : goal.put_square-next-requires
-put_square-next-requires c =
-    let f = square_text (plan c.args.shape c.args.marks.now) c.args.depths.now c.args.lasts.now in
-    let n = c.squares_of-squares.ensures in
-    let h = c.requires.shape_in_range in (
-      omega (arith, n, h.0.few),
-      omega (arith, n, h.1),
-      omega (arith, n, h.2),
-      omega (arith, n, h.3),
-      lines_fit most_square f c.args.at c.args.out.now (squares c.args.shape) c.requires.shape_in_bounds c.loop-square.invariant.1
-          (omega (arith, n)),
-    )
+loop-square-init c = lines_none _ _ _ _
 
 pub loop-square-preserved : goal.loop-square-preserved
 loop-square-preserved c =
-    let f = square_text (plan c.args.shape c.args.marks.now) c.args.depths.now c.args.lasts.now in (
-      omega arith,
-      lines_more most_square f c.args.at c.args.out.now (squares c.args.shape) c.requires.shape_in_bounds c.loop-square.invariant.1
-          (omega (arith, c.squares_of-squares.ensures)) c.put_square-next.ensures,
-    )
-
-pub shape_of-out : goal.shape_of-out
-shape_of-out c =
     let f = square_text (plan c.args.shape c.args.marks.now) c.args.depths.now c.args.lasts.now in
-    lines_long most_square f c.args.at c.args.out.now (squares c.args.shape) c.requires.shape_in_bounds c.loop-square.invariant.1 (omega (arith, c.squares_of-squares.ensures))
+    lines_more most_square f c.args.at c.args.out.now (squares c.args.shape) c.requires.shape_in_bounds c.loop-square.invariant
+    (omega (arith, c.squares_of-squares.ensures)) c.put_square-next.ensures
 
 pub returns : goal.returns
 unfolding squares_text
 returns c =
     let f = square_text (plan c.args.shape c.args.marks.now) c.args.depths.now c.args.lasts.now in
-    lines_all most_square f c.args.at c.args.out.now (squares c.args.shape) c.requires.shape_in_bounds c.loop-square.invariant.1 (omega (arith, c.squares_of-squares.ensures))
+    lines_all most_square f c.args.at c.args.out.now (squares c.args.shape) c.requires.shape_in_bounds c.loop-square.invariant (omega (arith, c.squares_of-squares.ensures))

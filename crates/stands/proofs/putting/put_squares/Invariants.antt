@@ -1,4 +1,3 @@
-use Prim.Native.Nat.{◌-◌, ◌≤◌}
 use Rattle.ledger.specs.Runs.{plan}
 use Rattle.stands.specs.Texts.{square_text}
 use Rattle.stands.specs.Inner.Putting.{most_square}
@@ -6,7 +5,4 @@ use Rattle.stands.proofs.PutLaws.{Lines}
 use Rattle.stands.proofs.putting.put_squares.Given as goal
 
 abbrev pub invariant-loop-square : goal.invariant-loop-square
-invariant-loop-square l = (l.square ≤ l.squares) × Lines most_square (square_text (plan l.shape l.marks) l.depths l.lasts) l.at l.initial.out l.out l.next l.square
-
-abbrev pub decreases-loop-square : goal.decreases-loop-square
-decreases-loop-square l = l.squares - l.square
+invariant-loop-square l = Lines most_square (square_text (plan l.shape l.marks) l.depths l.lasts) l.at l.initial.out l.out l.next l.square

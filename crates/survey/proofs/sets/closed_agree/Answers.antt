@@ -1,53 +1,28 @@
 -- `survey::sets::closed_agree` meets its contract: the squares passed agree, and both positions are those of the next.
 -- Assumes nothing.
-use mathlib.Core.Path.{sym, ◌∙◌}
-use native.Mathlib.Nat.{mul-le-mul}
-use native.Mathlib.Omega.{arith}
-use Rattle.raster.proofs.RangeLaws.{some_column}
+use mathlib.Core.Bool.{Bool}
+use Rattle.survey.specs.Inner.Notes.{closed_same}
+use mathlib.Core.Path.{ap, sym, ◌∙◌}
 use Rattle.survey.proofs.SetLaws.{agreeing_none, same_here, agreeing_more, closed_differ, closed-agree}
 use Rattle.survey.proofs.sets.closed_agree.Goals as goal
 
-pub overflow_mul-squares : goal.overflow_mul-squares
-overflow_mul-squares c = omega (arith, mul-le-mul c.requires.1 c.requires.2)
-
 pub loop-square-init : goal.loop-square-init
-loop-square-init c = (omega arith, agreeing_none _ _ _ _ _ _ c.requires.0)
-
-pub overflow_add-square : goal.overflow_add-square
-overflow_add-square c = omega (arith, c.loop-square-test.true, mul-le-mul c.requires.1 c.requires.2)
-
-pub nonzero_rem-square : goal.nonzero_rem-square
-nonzero_rem-square c = omega (arith, some_column c.args.shape.rows c.args.shape.columns c.loop-square-test.true)
-
-pub mark_at-requires : goal.mark_at-requires
-mark_at-requires c = some_column c.args.shape.rows c.args.shape.columns c.loop-square-test.true
+loop-square-init c = agreeing_none _ _ _ _ _ _ c.requires.0
 
 pub returns-then-not-closed_same : goal.returns-then-not-closed_same
 returns-then-not-closed_same c =
-    let a = c.args in
-    closed_differ a.note.now a.cells_at a.scale a.grid.now a.at a.shape c.loop-square-test.true
+    closed_differ _ _ _ _ _ c.args.shape c.loop-square-test.true
     (sym
-    (same_here _ _ _ _ _ _ c.loop-square.invariant.1 c.entry_at-entry.ensures c.mark_at.ensures
-    c.closed_same.ensures)
+    (same_here _ _ _ _ _ _ c.loop-square.invariant c.entry_at-entry.ensures c.mark_at.ensures
+    (c.closed_same.ensures ∙ ap (λ (b : Bool). closed_same b c.mark_at.result) c.is_shut.ensures))
     ∙ c.if-not-closed_same.true)
 
-pub next_line-line-requires : goal.next_line-line-requires
-next_line-line-requires c = c.loop-square.invariant.1.lines.inside
-
-pub overflow_add-square-in-loop-square : goal.overflow_add-square-in-loop-square
-overflow_add-square-in-loop-square c = omega (arith, c.loop-square-test.true, mul-le-mul c.requires.1 c.requires.2)
-
-pub loop-square-smaller : goal.loop-square-smaller
-loop-square-smaller c = omega (arith, c.loop-square-test.true)
-
 pub loop-square-preserved : goal.loop-square-preserved
-loop-square-preserved c = (
-  omega (arith, c.loop-square-test.true),
-  agreeing_more _ _ _ _ _ _ c.loop-square.invariant.1 c.entry_at-entry.ensures c.mark_at.ensures
-      c.closed_same.ensures (c.if-not-closed_same.false) c.next_line-line.ensures,
-)
+loop-square-preserved c =
+    rw c.next_of-next.ensures
+    (agreeing_more _ _ _ _ _ _ c.loop-square.invariant c.entry_at-entry.ensures c.mark_at.ensures
+    (c.closed_same.ensures ∙ ap (λ (b : Bool). closed_same b c.mark_at.result) c.is_shut.ensures)
+    (c.if-not-closed_same.false) c.next_line-line.ensures)
 
 pub returns : goal.returns
-returns c =
-    let a = c.args in
-    closed-agree a.note.now a.cells_at a.scale a.grid.now a.at a.shape c.loop-square-test.false c.loop-square.invariant.1.so_far
+returns c = closed-agree _ _ _ _ _ c.args.shape c.loop-square-test.false c.loop-square.invariant.so_far

@@ -1,12 +1,8 @@
 use mathlib.Core.Path.{◌≡◌}
-use Prim.Native.Nat.{◌-◌, ◌≤◌}
-use Rattle.raster.specs.Raster.{place_from, entry_from, head_of}
+use Rattle.raster.specs.Raster.{head_in, value_of, place_from, entry_from}
 use Rattle.survey.proofs.SetLaws.{Filling}
 use Rattle.survey.proofs.sets.fill_column.Given as goal
 
 abbrev pub invariant-loop-square : goal.invariant-loop-square
-invariant-loop-square l = (l.square ≤ l.squares) × (l.next ≡ place_from l.scale l.grid (head_of l.grid).next l.columns l.square) × Filling
-    (λ i. (entry_from l.scale l.grid (head_of l.grid).next l.columns i).value) l.initial.room l.square l.room
-
-abbrev pub decreases-loop-square : goal.decreases-loop-square
-decreases-loop-square l = l.squares - l.square
+invariant-loop-square l = (l.next ≡ place_from l.scale l.grid (head_in l.grid).next l.columns l.square) × Filling
+    (λ i. value_of (entry_from l.scale l.grid (head_in l.grid).next l.columns i)) l.initial.room l.square l.room

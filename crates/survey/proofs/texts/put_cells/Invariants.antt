@@ -1,4 +1,3 @@
-use Prim.Native.Nat.{◌-◌, ◌≤◌}
 use Rattle.reckon.specs.Lists.{joined}
 use Rattle.text.specs.Writing.{Wrote}
 use Rattle.sheet.specs.Sheet.{cells_rooms}
@@ -7,7 +6,4 @@ use Rattle.survey.specs.Inner.Writing.{only_cells}
 use Rattle.survey.proofs.texts.put_cells.Given as goal
 
 abbrev pub invariant-loop-square : goal.invariant-loop-square
-invariant-loop-square l = (l.square ≤ l.squares) × Wrote (joined l.square (cell_written l.columns (only_cells (cells_rooms l.marks l.beds l.roughness l.rates l.depths)))) l.at l.initial.out l.out l.next
-
-abbrev pub decreases-loop-square : goal.decreases-loop-square
-decreases-loop-square l = l.squares - l.square
+invariant-loop-square l = Wrote (joined l.square (cell_written l.columns (only_cells (cells_rooms l.marks l.beds l.roughness l.rates l.depths)))) l.at l.initial.out l.out l.next

@@ -3,12 +3,11 @@
 use mathlib.Core.Path.{refl, sym, ap}
 use mathlib.Core.List.{List, [], ◌∷◌}
 use Prim.Native.Nat.{ℕ}
-use native.Mathlib.Omega.{arith}
 use Rattle.text.specs.Reading.{tab}
 use Rattle.text.specs.Writing.{fields_text}
 use Rattle.sheet.specs.Lines.{cell_word, letter_of}
 use Rattle.answer.proofs.PrintLaws.{written_as}
-use Rattle.survey.proofs.PutLaws.{second_fits, third_fits, three_put}
+use Rattle.survey.proofs.PutLaws.{three_put}
 use Rattle.survey.proofs.texts.put_line_head.Goals as goal
 use Rattle.survey.proofs.texts.put_line_head.Goals.{Start}
 
@@ -17,17 +16,6 @@ place s = fields_text (s.args.row ∷ s.args.column ∷ [])
 
 abbrev letter : Start → List ℕ
 letter s = tab ∷ letter_of s.args.mark ∷ []
-
-pub put_fields-next-requires : goal.put_fields-next-requires
-put_fields-next-requires c = second_fits cell_word (place (goal.at.put_fields-next-requires c).Start) (letter (goal.at.put_fields-next-requires c).Start) refl c.args.at c.args.out.now c.requires.1 c.put_word-start.ensures
-
-pub put_word-requires : goal.put_word-requires
-put_word-requires c =
-    omega (
-      arith,
-      third_fits cell_word (place (goal.at.put_word-requires c).Start) (letter (goal.at.put_word-requires c).Start) refl c.args.at c.args.out.now c.requires.1 c.put_word-start.ensures
-          c.put_fields-next.ensures,
-    )
 
 pub returns : goal.returns
 returns c =

@@ -1,12 +1,8 @@
-use Prim.Native.Nat.{◌-◌, ◌≤◌}
 use lib.ListN.{drop}
 use Rattle.text.specs.Writing.{fields_text}
 use Rattle.text.proofs.WritingLaws.{Left}
 use Rattle.survey.proofs.PutLaws.{numbers}
 use Rattle.survey.proofs.texts.put_numbers.Given as goal
 
-abbrev pub invariant-loop-i : goal.invariant-loop-i
-invariant-loop-i l = (l.i ≤ l.width) × Left (fields_text (drop l.i (numbers l.table l.first l.width))) l.next l.out (fields_text (numbers l.table l.first l.width)) l.at l.initial.out
-
-abbrev pub decreases-loop-i : goal.decreases-loop-i
-decreases-loop-i l = l.width - l.i
+abbrev pub invariant-loop-value : goal.invariant-loop-value
+invariant-loop-value l = Left (fields_text (drop l.value-index (numbers l.table l.first l.width))) l.next l.out (fields_text (numbers l.table l.first l.width)) l.at l.initial.out

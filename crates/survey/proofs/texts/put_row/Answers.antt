@@ -21,9 +21,6 @@ same s = row_is s.args.word.now s.args.width s.args.table.now s.args.row
 pub put_word-start-requires : goal.put_word-start-requires
 put_word-start-requires c = first_fits c.args.word.now (values (goal.at.put_word-start-requires c).Start) (newline ∷ []) (same (goal.at.put_word-start-requires c).Start) c.args.at c.args.out.now c.requires.row_in_bounds
 
-pub overflow_mul-width : goal.overflow_mul-width
-overflow_mul-width c = omega (arith, c.requires.width_in_bounds)
-
 pub put_numbers-end-requires : goal.put_numbers-end-requires
 put_numbers-end-requires c = record {
   width_in_bounds = c.requires.width_in_bounds;

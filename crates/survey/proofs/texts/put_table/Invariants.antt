@@ -1,11 +1,7 @@
-use Prim.Native.Nat.{◌-◌, ◌≤◌}
 use Rattle.reckon.specs.Lists.{joined}
 use Rattle.text.specs.Writing.{Wrote}
 use Rattle.sheet.specs.Written.{row_written}
 use Rattle.survey.proofs.texts.put_table.Given as goal
 
 abbrev pub invariant-loop-row : goal.invariant-loop-row
-invariant-loop-row l = (l.row ≤ l.rows) × Wrote (joined l.row (row_written l.word l.width l.table)) l.at l.initial.out l.out l.next
-
-abbrev pub decreases-loop-row : goal.decreases-loop-row
-decreases-loop-row l = l.rows - l.row
+invariant-loop-row l = Wrote (joined l.row (row_written l.word l.width l.table)) l.at l.initial.out l.out l.next

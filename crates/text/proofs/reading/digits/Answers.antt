@@ -1,6 +1,5 @@
 -- `text::reading::digits` meets its contract: what the digits passed make and what is left make the whole; once above the most it only grows.
 -- Assumes nothing.
-use Prim.Native.Nat.{◌-◌}
 use mathlib.Core.Path.{sym, ◌∙◌}
 use native.Mathlib.Omega.{arith}
 use Rattle.text.proofs.ReadingLaws.{counted_none, counted-end, counted_over, counted_more, digit-within, digit_high}
@@ -32,13 +31,13 @@ returns-then-value-gt-MOST_NUMBER c =
     sym (counted_over l.invariant _ (sym c.is_digit.ensures ∙ c.loop-value-test.true)
     c.digit.ensures c.if-value-gt-MOST_NUMBER.true)
 
-pub overflow_add-p : goal.overflow_add-p
-overflow_add-p c =
+pub overflow_add-next : goal.overflow_add-next
+overflow_add-next c =
     let a = c.args in
     let l = c.loop-value in
     omega (
       arith,
-      digit-within a.text.now l.p
+      digit-within a.text.now l.next
           (sym c.is_digit.ensures ∙ c.loop-value-test.true),
     )
 
@@ -48,7 +47,7 @@ loop-value-smaller c =
     let l = c.loop-value in
     omega (
       arith,
-      digit-within a.text.now l.p
+      digit-within a.text.now l.next
           (sym c.is_digit.ensures ∙ c.loop-value-test.true),
     )
 

@@ -4,7 +4,7 @@ use Rattle.text.proofs.ReadingLaws.{Counted}
 use Rattle.text.proofs.reading.digits.Given as goal
 
 abbrev pub invariant-loop-value : goal.invariant-loop-value
-invariant-loop-value l = Counted l.text l.at l.value l.p
+invariant-loop-value l = Counted l.text l.at l.value l.next
 
 abbrev pub decreases-loop-value : goal.decreases-loop-value
-decreases-loop-value l = length l.text - l.p
+decreases-loop-value l = length l.text - l.next

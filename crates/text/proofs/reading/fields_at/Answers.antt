@@ -1,6 +1,5 @@
 -- `text::reading::fields_at` meets its contract: the fields passed, with those that are left, are the reading of all.
 -- Assumes nothing.
-use Prim.Native.Nat.{◌-◌}
 use mathlib.Core.Path.{refl, sym, ap, ◌∙◌}
 use native.Mathlib.Omega.{arith}
 use Rattle.reckon.specs.Lists.{tabulate}
@@ -10,23 +9,15 @@ use Rattle.text.proofs.reading.fields_at.Goals as goal
 
 pub loop-i-init : goal.loop-i-init
 unfolding padded tabulate
-loop-i-init c = (omega arith, got_none _ _ _ _ refl)
+loop-i-init c = got_none _ _ _ _ refl
 
-pub returns-in_default : goal.returns-in_default
-returns-in_default c =
-    let a = c.args in
-    let l = c.loop-i in
-    c.nothing.ensures ∙ ap (as_fields a.at)
-    (sym (got_stop l.invariant.1 (omega arith)
-    (sym c.field_at.ensures ∙ c.in_default.is)))
+pub returns-in_err-field : goal.returns-in_err-field
+unfolding as_fields
+returns-in_err-field c =
+    c.from_residual.ensures ∙ ap as_fields (sym (got_stop c.loop-i.invariant (omega arith) (sym c.in_err-field.ensures)))
 
 pub loop-i-preserved : goal.loop-i-preserved
-loop-i-preserved c =
-    let l = c.loop-i in (
-      omega arith,
-      got_more l.invariant.1 (omega arith) _ _ (omega arith)
-          (sym c.field_at.ensures ∙ c.in-Is.is),
-    )
+loop-i-preserved c = got_more c.loop-i.invariant (omega arith) _ _ (omega arith) (sym c.in_ok-field.ensures)
 
 pub returns : goal.returns
-returns c = got_all c.loop-i.invariant.1 (omega arith)
+returns c = got_all c.loop-i.invariant (omega arith)

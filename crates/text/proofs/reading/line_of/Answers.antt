@@ -2,18 +2,14 @@
 -- Assumes nothing.
 use mathlib.Core.Path.{sym, ap, ◌∙◌}
 use native.Mathlib.Omega.{arith}
-use borrow.Author.Tests.{not-true, not-false}
 use Rattle.reckon.proofs.TestLaws.{pick_true, pick_false}
 use Rattle.text.specs.Reading.{read_line, as_fields}
-use Rattle.text.proofs.ReadingLaws.{unfound, found_anywhere, word_within}
+use Rattle.text.proofs.ReadingLaws.{word_within}
 use Rattle.text.proofs.reading.line_of.Goals as goal
 
 pub returns-then-not-word_at : goal.returns-then-not-word_at
-unfolding read_line
-returns-then-not-word_at c =
-    let a = c.args in
-    c.nothing.ensures ∙ ap (as_fields a.at)
-    (sym (pick_false _ _ (sym c.word_at.ensures ∙ c.if-not-word_at.true)))
+unfolding read_line as_fields
+returns-then-not-word_at c = sym (ap as_fields (pick_false _ _ (sym c.word_at.ensures ∙ c.if-not-word_at.true)))
 
 pub overflow_add-at : goal.overflow_add-at
 overflow_add-at c =
@@ -21,22 +17,7 @@ overflow_add-at c =
     omega
     (arith, word_within a.text.now a.at a.word.now (sym c.word_at.ensures ∙ c.if-not-word_at.false))
 
-pub returns-then-not-rest : goal.returns-then-not-rest
-unfolding read_line
-returns-then-not-rest c =
-    let a = c.args in
-    c.nothing-then-not-rest.ensures
-    ∙ ap (as_fields a.at)
-    (sym
-    (pick_true _ _
-    (sym c.word_at.ensures ∙ c.if-not-word_at.false)
-    ∙ unfound _ _ c.rest_of_line-rest.ensures (not-true _ c.if-not-rest.true)))
-
 pub returns : goal.returns
 unfolding read_line
 returns c =
-    let a = c.args in
-    found_anywhere _ _ c.rest_of_line-rest.ensures a.at (not-false _ c.if-not-rest.false)
-    ∙ ap (as_fields a.at)
-    (sym (pick_true _ _
-    (sym c.word_at.ensures ∙ c.if-not-word_at.false)))
+    c.rest_of_line.ensures ∙ ap as_fields (sym (pick_true _ _ (sym c.word_at.ensures ∙ c.if-not-word_at.false)))

@@ -1,39 +1,30 @@
 -- `text::writing::put_fields` meets its contract: what is left, put from here on, makes the whole.
 -- Assumes nothing.
-use Prim.Native.Nat.{◌+◌, ◌-◌}
+use Prim.Native.Nat.{◌+◌}
 use native.Mathlib.Omega.{arith}
 use lib.ListN.{get_or, drop}
 use Rattle.text.specs.Writing.{field_text, fields_text}
-use Rattle.text.proofs.WritingLaws.{left_all, left_fits, left_step, left_none, fields_text_more, fields_text_end}
+use Rattle.text.proofs.WritingLaws.{left_fits, left_step, left_none, fields_text_more, fields_text_end}
 use Rattle.text.proofs.writing.put_fields.Goals as goal
 
-pub loop-i-init : goal.loop-i-init
-loop-i-init c = (omega arith, left_all _ _ _ c.requires)
-
-pub put_field-p-requires : goal.put_field-p-requires
-put_field-p-requires c =
+pub put_field-next-requires : goal.put_field-next-requires
+put_field-next-requires c =
     let a = c.args in
-    let l = c.loop-i in
+    let l = c.loop-value in
     omega (
       arith,
-      left_fits (field_text (get_or a.values.now l.i 0)) (fields_text (drop (l.i + 1) a.values.now))
-          (rw (fields_text_more a.values.now l.i (omega arith)) at l.invariant.1),
+      left_fits (field_text (get_or a.values.now l.value-index 0)) (fields_text (drop (l.value-index + 1) a.values.now))
+          (rw (fields_text_more a.values.now l.value-index (omega arith)) at l.invariant),
     )
 
-pub loop-i-preserved : goal.loop-i-preserved
-loop-i-preserved c =
+pub loop-value-preserved : goal.loop-value-preserved
+loop-value-preserved c =
     let a = c.args in
-    let l = c.loop-i in (
-      omega arith,
-      left_step (rw (fields_text_more a.values.now l.i (omega arith)) at l.invariant.1)
-          c.put_field-p.ensures,
-    )
-
-pub shape_of-room : goal.shape_of-room
-shape_of-room c = c.loop-i.invariant.1.long
+    let l = c.loop-value in
+    left_step (rw (fields_text_more a.values.now l.value-index (omega arith)) at l.invariant) c.put_field-next.ensures
 
 pub returns : goal.returns
 returns c =
     let a = c.args in
-    let l = c.loop-i in
-    left_none (rw (fields_text_end a.values.now l.i (omega arith)) at l.invariant.1)
+    let l = c.loop-value in
+    left_none (rw (fields_text_end a.values.now l.value-index (omega arith)) at l.invariant)
