@@ -54,7 +54,7 @@ SOURCES = (".ci", "bin", "crates", "examples", "python", "rust", "samples", "tes
 # folders in which rt and cargo leave what they build
 BUILT = ("out", "target")
 # these tell what was, with names that have gone since
-OF_THE_PAST = {"CHANGES.md", "PORT.md", "DESIGN-PASS.md"}
+OF_THE_PAST = {"CHANGES.md", "PORT.md", "DESIGN-PASS.md", "LOOK-BACK.md"}
 # names of the kit, which stand in no source of this project
 OF_THE_KIT = {"rattle-kit-13f", "version"}
 

@@ -17,7 +17,7 @@ TOP = Path(__file__).resolve().parent.parent
 # folders that come in whole, under their own names
 WHOLE = ("bin", "docs", "examples", "python", "rust", "samples", "tools", "validation")
 # what is of no use without the sources, or is packed elsewhere
-LEFT_OUT = {"docs/RELEASE.md", "docs/PORT.md", "docs/DESIGN-PASS.md", "docs/design-left.patch", "docs/man", "python/rattle"}
+LEFT_OUT = {"docs/RELEASE.md", "docs/PORT.md", "docs/DESIGN-PASS.md", "docs/LOOK-BACK.md", "docs/design-left.patch", "docs/man", "python/rattle"}
 LEFT_OUT |= {f"bin/{name}" for name in ("release", "setup", "speed", "test")}
 LEFT_OUT |= {
     f"tools/{name}.py"
