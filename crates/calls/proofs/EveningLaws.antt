@@ -4,8 +4,8 @@ use mathlib.Core.Path.{sym, ap, ◌∙◌, subst}
 use mathlib.Core.List.{List}
 use Prim.Native.Nat.{ℕ}
 use borrow.Author.Tests.{eq-eqb, ne_eqb}
-use Rattle.std.specs.Prelude.{Option, Some, None}
-use Rattle.reckon.specs.Tests.{refusal}
+use Rattle.std.specs.Prelude.{◌≡◌, false, [], ◌∷◌, Option, Some, None}
+use Rattle.reckon.specs.Tests.{pick, ◌unless◌, refusal}
 use Rattle.reckon.proofs.TestLaws.{pick_true, pick_false}
 use Rattle.ledger.specs.Runs.{Plan}
 use Rattle.checks.specs.Given.{Given}
@@ -20,7 +20,7 @@ use Rattle.demands.specs.Table.{FirstFails, TableSays}
 use Rattle.demands.proofs.Table.{table_says}
 use Rattle.demands.specs.HatchLog.{page_after, on, stores_with}
 use Rattle.demands.proofs.HatchRuns.{hatch_log_runs}
-use Rattle.calls.specs.Evenings.{AfterEntry, AfterRead, AfterLine, AfterBegin, AfterGoingOn}
+use Rattle.calls.specs.Evenings.{line_refusals, AfterEntry, AfterRead, AfterLine, AfterBegin, AfterGoingOn}
 
 module _ (p : Plan) (g : Given) (entry : Entry) (e : Evening) where
   -- the rows are a table
@@ -42,12 +42,27 @@ module _ (p : Plan) (g : Given) (entry : Entry) (e : Evening) where
         goes_on = λ x q. ap (λ (at : Evening). after_entry p g at entry) q ∙ sym s.evening_is;
       }
 
+-- a line that cannot be read has one row, which applies
+unread_says : (n : ℕ) → FirstFails (12 unless false ∷ []) n → 12 ≡ n
+unfolding refusal pick
+unread_says n first = (table_says (12 unless false ∷ []) tt).applies n first
+
+-- read or not, the first row that applies refuses it
+refused_when :
+    (p : Plan) (g : Given) (entry : Option Entry) (e : Evening) {number : ℕ} {after : Evening} → TakesEntry p g entry e number after →
+    (n : ℕ) → FirstFails (line_refusals p g e entry) n → (number ≡ n) × (after ≡ e)
+refused_when p g (Some entry) e t = (after-entry p g entry e t).exactly_when
+refused_when p g None e t = λ n first. (t.number_is ∙ unread_says n first, t.evening_is)
+
 pub after_read-entry :
     (p : Plan) (g : Given) (entry : Option Entry) (e : Evening) {number : ℕ} {after : Evening} → TakesEntry p g entry e number after → AfterRead p g entry e number after
+unfolding page_after
 after_read-entry p g entry e t =
     record {
       said = λ x h. after-entry p g x e (record { number_is = t.number_is ∙ ap (read_number p g e) h; evening_is = t.evening_is ∙ ap (after_read p g e) h });
       unread = λ h. (t.number_is ∙ ap (read_number p g e) h, t.evening_is ∙ ap (after_read p g e) h);
+      exactly_when = refused_when p g entry e t;
+      goes_on = λ x q. ap (λ (at : Evening). after_read p g at entry) q ∙ sym t.evening_is;
     }
 
 pub after_line :

@@ -1,7 +1,7 @@
 -- What the caller of the hatch log's calls has, in document 02's words (#107).
 -- Assumes nothing.
-use Rattle.std.specs.Prelude.{◌≡◌, true, List, [], ◌∷◌, ◌++◌, ℕ, take, Option, Some, None}
-use Rattle.reckon.specs.Tests.{refusal}
+use Rattle.std.specs.Prelude.{◌≡◌, true, false, List, [], ◌∷◌, ◌++◌, ℕ, take, Option, Some, None}
+use Rattle.reckon.specs.Tests.{Row, ◌unless◌, refusal}
 use Rattle.ledger.specs.Runs.{Plan}
 use Rattle.checks.specs.Given.{Given}
 use Rattle.programs.specs.Program.{Prints}
@@ -23,12 +23,20 @@ pub record AfterEntry (p : Plan) (g : Given) (entry : Entry) (e : Evening) (numb
   -- else it does what it says, and its steps may be refused
   pub taken : refusal (entry_refusals p g e entry) ≡ 0 → (number ≡ steps_number p g e entry) × (after ≡ entered p g e entry)
   -- it is the next line of any evening, of which `HatchLog` speaks
-  pub goes_on : (x : Page p g) → x.at ≡ e → (page_after p g (entry ∷ []) x).at ≡ after
+  pub goes_on : (x : Page p g) → x.at ≡ e → (page_after p g (Some entry ∷ []) x).at ≡ after
+
+-- the rows of a line of the log: "12 first", and of one that can't be read no other
+abbrev pub line_refusals : Plan → Given → Evening → Option Entry → List Row
+line_refusals p g e (Some entry) = entry_refusals p g e entry
+line_refusals p g e None = 12 unless false ∷ []
 
 -- the same of a line of the log: one that can't be read is 12, and nothing changes
 pub record AfterRead (p : Plan) (g : Given) (entry : Option Entry) (e : Evening) (number : ℕ) (after : Evening) : Type 0 where
   pub said : (x : Entry) → entry ≡ Some x → AfterEntry p g x e number after
   pub unread : entry ≡ None → (number ≡ 12) × (after ≡ e)
+  -- read or not: the first row that applies refuses it, and it is the next line of any evening, of which `HatchLog` speaks
+  pub exactly_when : (n : ℕ) → FirstFails (line_refusals p g e entry) n → (number ≡ n) × (after ≡ e)
+  pub goes_on : (x : Page p g) → x.at ≡ e → (page_after p g (entry ∷ []) x).at ≡ after
 
 -- the same of the line at a position, and what is printed of it
 pub record AfterLine (p : Plan) (g : Given) (s : List ℕ) (at line : ℕ) (e : Evening) (a : LineTaken) (after : Evening) (old new : List ℕ) : Type 0 where

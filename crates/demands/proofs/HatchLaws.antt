@@ -7,6 +7,7 @@ use mathlib.Core.List.{List, [], ◌∷◌, ◌++◌, map}
 use Prim.Native.Nat.{ℕ, zero, suc, ◌+◌, ◌-◌, ◌≤◌, ◌<◌}
 use native.Mathlib.Omega.{arith}
 use lib.Dec.{eqb}
+use Rattle.std.specs.Prelude.{Option, Some, None}
 use lib.ListN.{length, get_or, set, replicate, drop, length-append, length-drop, length-set, length-replicate}
 use native.Mathlib.Decide.{ℕ_discrete}
 use borrow.Author.Tests.{eq-eqb, ne_eqb}
@@ -23,7 +24,7 @@ use Rattle.checks.specs.Given.{Given}
 use Rattle.flood.specs.Run.{Ended, go_on, run_to}
 use Rattle.answer.specs.Printed.{totals_text, made_text}
 use Rattle.hatches.specs.Log.{Evening, most_hatches, rates_kept, line_fine, entry_refusals, rates_back}
-use Rattle.evenings.specs.Taking.{world_of, drawn, entry_number, steps_number, line_run, further, back_from, after_hatch, after_rate, after_back, entered, after_entry}
+use Rattle.evenings.specs.Taking.{world_of, drawn, entry_number, steps_number, line_run, further, back_from, after_hatch, after_rate, after_back, entered, after_entry, after_read}
 use Rattle.evenings.specs.Shown.{stands_text}
 use Rattle.hatches.proofs.RefusalLaws.{entered_is, back_kept}
 use Rattle.evenings.proofs.BackLaws.{backs, Backed, backed}
@@ -319,7 +320,7 @@ module _ (p : Plan) (g : Given) (f : World) (fresh : Fresh p f) where
     follow_made (Back count) z = follow_back count (back_kept e.log count (entered_is p g e (Back count) z).kept)
 
     -- any line
-    follow_line : (entry : Entry) → Follows earlier (record { at = after_entry p g e entry; noted = noted_after p g e entry m })
+    follow_line : (entry : Entry) → Follows earlier (record { at = after_entry p g e entry; noted = noted_after p g e (Some entry) m })
     unfolding after_entry noted_after
     follow_line entry = go (ℕ_discrete (refusal (entry_refusals p g e entry)) 0)
       where
@@ -342,10 +343,16 @@ module _ (p : Plan) (g : Given) (f : World) (fresh : Fresh p f) where
     unfolding entry_number steps_number
     whole_back count z = pick_true _ _ (eq-eqb _ _ z) ∙ goes_whole count 0 (back_kept e.log count (entered_is p g e (Back count) z).kept) h.goes
 
-  follow_all : (lines : List Entry) (x : Page p g) → Follows 0 x → Follows 0 (page_after p g lines x)
+  -- one that cannot be read changes nothing
+  follow_read : (x : Page p g) → Follows 0 x → (entry : Option Entry) → Follows 0 (record { at = after_read p g x.at entry; noted = noted_after p g x.at entry x.noted })
+  unfolding noted_after
+  follow_read x h (Some entry) = follow_line x h entry
+  follow_read x h None = h
+
+  follow_all : (lines : List (Option Entry)) (x : Page p g) → Follows 0 x → Follows 0 (page_after p g lines x)
   unfolding page_after
   follow_all [] x h = h
-  follow_all (entry ∷ rest) x h = follow_all rest _ (follow_line x h entry)
+  follow_all (entry ∷ rest) x h = follow_all rest _ (follow_read x h entry)
 
   -- ---- so nothing but the standing steps is left
 
@@ -376,10 +383,10 @@ module _ (p : Plan) (g : Given) (f : World) (fresh : Fresh p f) where
 -- ---- the theorems
 
 module _ (p : Plan) (g : Given) where
-  follows : (f : World) (began : List ℕ) (o : Opens p g f began) (lines : List Entry) → Follows p g f o.fresh 0 (page_after p g lines (first_page p g f began))
+  follows : (f : World) (began : List ℕ) (o : Opens p g f began) (lines : List (Option Entry)) → Follows p g f o.fresh 0 (page_after p g lines (first_page p g f began))
   follows f began o lines = follow_all p g f o.fresh lines (first_page p g f began) (follow_first p g f o.fresh began o)
 
-  gone : (f : World) (began : List ℕ) (o : Opens p g f began) (lines : List Entry) → (page_after p g lines (first_page p g f began)).noted.standing ≡ [] →
+  gone : (f : World) (began : List ℕ) (o : Opens p g f began) (lines : List (Option Entry)) → (page_after p g lines (first_page p g f began)).noted.standing ≡ [] →
       stands_text p (page_after p g lines (first_page p g f began)).at ≡ made_text p f.depths f.run 0
   unfolding alone
   gone f began o lines none =

@@ -1,7 +1,7 @@
 -- Document 02, #107, and the letter's demand 3: an evening of lines leaves no mark but the steps still standing, each at its own rates; and the
 -- program's calls, one after the other, print the log's text.
 -- Assumes nothing.
-use Rattle.std.specs.Prelude.{◌≡◌, true, false, List, [], ◌∷◌, ◌++◌, map, ℕ, zero, suc, ◌-◌, ◌≤◌, ◌<◌, eqb, length, get_or, set, replicate, take, drop}
+use Rattle.std.specs.Prelude.{◌≡◌, true, false, List, [], ◌∷◌, ◌++◌, map, ℕ, zero, suc, ◌-◌, ◌≤◌, ◌<◌, eqb, length, get_or, set, replicate, take, drop, Option, Some, None}
 use Rattle.reckon.specs.Tests.{pick, refusal}
 use Rattle.ledger.specs.Runs.{Plan, World, seen_of}
 use Rattle.sheet.specs.Sheet.{rooms}
@@ -10,7 +10,7 @@ use Rattle.trials.specs.Ring.{slots_in}
 use Rattle.checks.specs.Given.{Given}
 use Rattle.answer.specs.Printed.{made_text}
 use Rattle.hatches.specs.Log.{Evening, evening, opened, most_hatches, entry_refusals}
-use Rattle.evenings.specs.Taking.{drawn, entry_number, line_run, line_back, after_entry}
+use Rattle.evenings.specs.Taking.{drawn, entry_number, line_run, line_back, after_entry, after_read}
 use Rattle.evenings.specs.Shown.{stands_text}
 use Rattle.evenings.specs.Program.{Stores, stores, hatchlog_text, Begins, GoesOn}
 use Rattle.hatches.specs.declared.lines.Entry.{Entry}
@@ -43,9 +43,10 @@ module _ (p : Plan) (g : Given) where
   noted_with e (Back count) m = noted_back (line_back p g e count).steps m
   noted_with e (Hatch n row column) m = m
 
-  -- any line
-  unfoldable pub noted_after : Evening → Entry → Notes → Notes
-  noted_after e entry m = pick (eqb (refusal (entry_refusals p g e entry)) 0) (noted_with e entry m) m
+  -- any line, or one that cannot be read
+  unfoldable pub noted_after : Evening → Option Entry → Notes → Notes
+  noted_after e (Some entry) m = pick (eqb (refusal (entry_refusals p g e entry)) 0) (noted_with e entry m) m
+  noted_after e None m = m
 
   -- Where lines have come to: the evening as the library works it, and the notes.
   pub record Page : Type 0 where
@@ -60,11 +61,11 @@ module _ (p : Plan) (g : Given) where
         noted = notes (replicate most_hatches 0) [];
       }
 
-  -- line after line, refused ones among them
-  unfoldable pub page_after : List Entry → Page → Page
+  -- line after line, refused ones and such as cannot be read among them
+  unfoldable pub page_after : List (Option Entry) → Page → Page
   page_after [] x = x
   page_after (entry ∷ rest) x =
-      page_after rest (record { at = after_entry p g x.at entry; noted = noted_after x.at entry x.noted })
+      page_after rest (record { at = after_read p g x.at entry; noted = noted_after x.at entry x.noted })
 
   -- "each with its own rates": what is given to each standing step
   abbrev pub standing_givens : Page → List Given
@@ -99,14 +100,14 @@ module _ (p : Plan) (g : Given) where
     pub some : 0 < room_slots p f.records
     pub rates_suffice : room_slots p f.records ≤ slots_in most_hatches (length began)
 
-  -- for any lines, refused ones among them
+  -- for any lines, refused ones and such as cannot be read among them
   pub record HatchLog : Type 0 where
-    pub no_mark : (f : World) (began : List ℕ) → Opens f began → (lines : List Entry) → LeavesNoMark f (page_after lines (first_page f began))
+    pub no_mark : (f : World) (began : List ℕ) → Opens f began → (lines : List (Option Entry)) → LeavesNoMark f (page_after lines (first_page f began))
     -- an evening of which every step is taken back was never there
-    pub untouched : (f : World) (began : List ℕ) → Opens f began → (lines : List Entry) → (page_after lines (first_page f began)).noted.standing ≡ [] →
+    pub untouched : (f : World) (began : List ℕ) → Opens f began → (lines : List (Option Entry)) → (page_after lines (first_page f began)).noted.standing ≡ [] →
         stands_text p (page_after lines (first_page f began)).at ≡ made_text p f.depths f.run 0
     -- a `back` that is not refused by 10 or before is made whole: never by what a record holds
-    pub back_whole : (f : World) (began : List ℕ) → Opens f began → (lines : List Entry) (count : ℕ) →
+    pub back_whole : (f : World) (began : List ℕ) → Opens f began → (lines : List (Option Entry)) (count : ℕ) →
         refusal (entry_refusals p g (page_after lines (first_page f began)).at (Back count)) ≡ 0 →
         entry_number p g (page_after lines (first_page f began)).at (Back count) ≡ 0
     -- "prints .. at each line's clock": a line's run that is not refused has come to the line's clock
